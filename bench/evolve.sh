@@ -1,0 +1,61 @@
+#!/usr/bin/env bash
+# Times `swevo evolve` on libraries of 1,024 and of 4,096 functions, with a client that calls each
+# of them once, and checks every line that comes out. The program is built first where it has to be.
+# Each time is the least of three runs; a run that takes longer than 120 seconds is an error.
+set -eu
+shopt -s inherit_errexit
+
+swevo="$(dirname -- "$(dirname -- "$(readlink -f -- "${BASH_SOURCE[0]}")")")/bin/swevo"
+folder="$(mktemp -d)"
+trap 'rm -rf -- "$folder"' EXIT
+cd -- "$folder"
+
+# The number of the function that the Nth call calls: each number once, in no order of the library.
+# The old function I returns I, and the new one 3 * I + 1.
+write_files() {
+    awk -v n="$1" 'BEGIN {
+        print "import Lib" >"main.swift"
+        for (i = 0; i < n; i++) {
+            called = (i * 409 + 7) % n
+            printf "public func f%d() -> Int { return %d }\n", i, i >"old.swift"
+            printf "public func f%d() -> Int { return %d }\n", i, 3 * i + 1 >"new.swift"
+            printf "print(f%d())\n", called >"main.swift"
+            print 3 * called + 1 >"expected"
+        }
+    }'
+}
+
+# Runs the program once, checks what it printed, and prints its time in microseconds.
+time_run() {
+    local start="${EPOCHREALTIME/[.,]/}"
+    timeout 120 "$swevo" evolve Lib old.swift new.swift main.swift 100000 >printed
+    local end="${EPOCHREALTIME/[.,]/}"
+    cmp -- printed expected >&2
+    echo $((end - start))
+}
+
+# Prints the least time of three runs with so many functions, in microseconds.
+least_time() {
+    local least time turn
+    write_files "$1"
+    for turn in 1 2 3; do
+        time="$(time_run)"
+        if [[ "$turn" == 1 || "$time" -lt "$least" ]]; then least="$time"; fi
+    done
+    echo "$least"
+}
+
+printf 'public func f() -> Int { return 1 }\n' >old.swift
+printf 'import Lib\nprint(f())\n' >main.swift
+[[ "$("$swevo" evolve Lib old.swift old.swift main.swift 2)" == 1 ]]
+
+start="$(least_time 1)"
+small="$(least_time 1024)"
+large="$(least_time 4096)"
+awk -v start="$start" -v small="$small" -v large="$large" 'BEGIN {
+    printf "1 function and call: %.3f s, which is mostly the start\n", start / 1000000
+    printf "1,024 functions and calls: %.3f s\n", small / 1000000
+    printf "4,096 functions and calls: %.3f s\n", large / 1000000
+    printf "growth for 4 times the functions and calls: %.1f times, ", large / small
+    printf "and %.1f times without the start\n", (large - start) / (small - start)
+}'

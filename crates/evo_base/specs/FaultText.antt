@@ -1,0 +1,42 @@
+-- The text that is printed for each kind of fault.
+use Rattle.std.specs.Prelude.{ℕ, List, codes}
+use Rattle.evo_base.specs.declared.fault_kind.FaultKind.{FaultKind}
+use Rattle.evo_base.specs.declared.fault_kind.FaultKind.TheVariants as kind
+
+-- the text of a kind, in ASCII
+abbrev pub text_of : FaultKind → List ℕ
+text_of kind.NotUtf8 = codes "text is not UTF-8"
+text_of kind.BadToken = codes "not a token"
+text_of kind.Grammar = codes "not in the grammar"
+text_of kind.Deep = codes "nested too deeply"
+text_of kind.Twice = codes "declared twice"
+text_of kind.Unknown = codes "unknown name"
+text_of kind.TooMany = codes "too many"
+text_of kind.NoSuchName = codes "no such name"
+text_of kind.LocalTwice = codes "local declared twice"
+text_of kind.WrongLabels = codes "wrong labels"
+text_of kind.WrongType = codes "wrong type"
+text_of kind.NoConformance = codes "no conformance"
+text_of kind.NoSetter = codes "cannot be set"
+text_of kind.Unavailable = codes "not available"
+text_of kind.Ambiguous = codes "ambiguous"
+text_of kind.PathTooLong = codes "associated path too long"
+text_of kind.MissingRequirement = codes "requirement is missing"
+text_of kind.BadConformer = codes "cannot conform"
+text_of kind.Conflict = codes "requirements conflict"
+text_of kind.BadOverride = codes "override does not fit"
+text_of kind.Retroactive = codes "retroactive conformance"
+text_of kind.ContainsItself = codes "contains itself"
+text_of kind.NoInitialiser = codes "class has no initialiser"
+text_of kind.HiddenType = codes "names a hidden type"
+text_of kind.TooLarge = codes "too large"
+text_of kind.MissingReturn = codes "missing return"
+text_of kind.NotExhaustive = codes "switch is not exhaustive"
+text_of kind.NotInitialised = codes "not initialised"
+text_of kind.AssignedTwice = codes "assigned twice"
+text_of kind.StrayJump = codes "nothing to leave"
+text_of kind.InlinableHidden = codes "inlinable body names a hidden declaration"
+text_of kind.FrozenHidden = codes "frozen storage names a hidden type"
+text_of kind.MustDelegate = codes "initialiser must delegate"
+text_of kind.Misplaced = codes "attribute or modifier is misplaced"
+text_of kind.NotBuilt = codes "not built yet"

@@ -1,0 +1,9 @@
+pub mod Causes
+pub mod Content
+pub mod FaultText
+pub mod FilesState
+pub mod Laws
+pub mod Names
+pub mod Plan
+pub mod SinkState
+pub mod Tokens

@@ -1,0 +1,30 @@
+//! Names, keys, lists, places, tokens and kinds of fault; files and sinks.
+#![tactic(auto)]
+
+mod disk;
+mod entry;
+mod fault_kind;
+mod files;
+mod key;
+mod list;
+mod mem_files;
+mod mem_sink;
+mod name;
+mod name_table;
+mod place;
+mod plan;
+mod sink;
+mod token;
+
+pub use disk::{DiskFiles, StdSink};
+pub use fault_kind::FaultKind;
+pub use files::{Failed, Files, GetFault};
+pub use key::{Key, Mark, Part, ProtocolName};
+pub use list::List;
+pub use mem_files::MemFiles;
+pub use mem_sink::MemSink;
+pub use name::Name;
+pub use name_table::NameTable;
+pub use place::{Place, Release};
+pub use sink::Sink;
+pub use token::{Token, TokenKind};

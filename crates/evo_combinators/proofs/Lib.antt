@@ -1,0 +1,12 @@
+pub mod Laws
+pub mod Deeper
+pub mod Faults
+pub mod Turns
+pub mod GuardLaws
+pub mod RunLaws
+pub mod RunTurns
+pub mod GuardDeeper
+pub mod FilterLaws
+pub mod Entered
+pub mod Copies
+pub mod Sequences

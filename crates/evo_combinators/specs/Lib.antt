@@ -1,0 +1,5 @@
+pub mod Rule
+pub mod Reader
+pub mod Guard
+pub mod Laws
+pub mod Copies

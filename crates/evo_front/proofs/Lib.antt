@@ -1,0 +1,4 @@
+pub mod Known
+pub mod Distinct
+pub mod Plain
+pub mod Within

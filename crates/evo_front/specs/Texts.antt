@@ -1,0 +1,45 @@
+-- Which texts are accepted.
+use Rattle.std.specs.Prelude.{◌≡◌, ◌≤◌, ◌^◌, ℕ, List, Option, Some, None, length}
+use Rattle.evo_tree.specs.declared.Function.{Function}
+use Rattle.evo_tree.specs.declared.Client.{Client}
+use Rattle.evo_tree.specs.declared.Interface.{Interface}
+use Rattle.evo_tree.specs.Interface.{interface_of}
+use Rattle.evo_tree.specs.Accepted.{IsAcceptedLibrary, IsAcceptedClient}
+use Rattle.evo_parse.specs.Grammar.{SpellsLibrary, SpellsClient}
+use Rattle.evo_iface.specs.Text.{interface_text}
+use Rattle.evo_front.specs.declared.library.AcceptedLibrary.{AcceptedLibrary}
+
+-- the most bytes of a source file
+abbrev pub file_limit : ℕ
+file_limit = 2 ^ 20
+
+-- the most bytes of an interface's text
+abbrev pub interface_limit : ℕ
+interface_limit = 2 ^ 24
+
+-- a text that is accepted as a library of this name, with these functions
+pub record IsLibraryText (library text : List ℕ) (functions : List Function) : Type 0 where
+  pub short : length text ≤ file_limit
+  pub spells : SpellsLibrary text functions
+  pub accepted : IsAcceptedLibrary library functions
+  pub interface_short : length (interface_text (interface_of library functions)) ≤ interface_limit
+
+-- a text that is accepted as a client of the interface
+pub record IsClientText (interface : Interface) (text : List ℕ) (client : Client) : Type 0 where
+  pub short : length text ≤ file_limit
+  pub spells : SpellsClient text client
+  pub accepted : IsAcceptedClient interface client
+
+-- the interface, where its text is within the limit
+abbrev pub IsInterfaceWithin : Interface → Option Interface → Type 0
+IsInterfaceWithin interface None = length (interface_text interface) ≤ interface_limit → ⊥
+IsInterfaceWithin interface (Some found) = (found ≡ interface) × (length (interface_text interface) ≤ interface_limit)
+
+-- what acceptance answers: the library of the text with its interface, or nothing
+abbrev pub AcceptsLibrary : List ℕ → List ℕ → Option AcceptedLibrary → Type 0
+AcceptsLibrary library text None = (functions : List Function) → IsLibraryText library text functions → ⊥
+AcceptsLibrary library text (Some found) = IsLibraryText library text found.functions × (found.interface ≡ interface_of library found.functions)
+
+abbrev pub AcceptsClient : Interface → List ℕ → Option Client → Type 0
+AcceptsClient interface text None = (client : Client) → IsClientText interface text client → ⊥
+AcceptsClient interface text (Some client) = IsClientText interface text client

@@ -1,0 +1,5 @@
+pub mod Lines
+pub mod Falls
+pub mod Whole
+pub mod Starts
+pub mod Sinks

@@ -1,0 +1,5 @@
+pub mod Image
+pub mod Machine
+pub mod Runs
+pub mod Effects
+pub mod Laws

@@ -1,0 +1,7 @@
+pub mod WordLemmas
+pub mod Decimal
+pub mod Tests
+pub mod Lengths
+pub mod Right
+pub mod Spelled
+pub mod FactLemmas

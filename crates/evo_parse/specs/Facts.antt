@@ -1,0 +1,26 @@
+-- What holds of each library and client that a text spells.
+use Rattle.std.specs.Prelude.{◌^◌, ◌<◌, List, All}
+use Rattle.evo_tree.specs.declared.Function.{Function}
+use Rattle.evo_tree.specs.declared.Term.{Term}
+use Rattle.evo_tree.specs.declared.Term.TheVariants as term
+use Rattle.evo_tree.specs.declared.Print.{Print}
+use Rattle.evo_tree.specs.declared.Client.{Client}
+use Rattle.evo_parse.specs.Words.{IsName}
+
+pub record FunctionFacts (function : Function) : Type 0 where
+  pub name : IsName function.name
+  pub value : function.value < 2 ^ 63
+
+abbrev pub LibraryFacts : List Function → Type 0
+LibraryFacts functions = All FunctionFacts functions
+
+abbrev pub TermFacts : Term → Type 0
+TermFacts (term.Integer value) = value < 2 ^ 63
+TermFacts (term.Call name) = IsName name
+
+abbrev pub PrintFacts : Print → Type 0
+PrintFacts print = All TermFacts print.terms
+
+pub record ClientFacts (client : Client) : Type 0 where
+  pub name : IsName client.«import»
+  pub prints : All PrintFacts client.prints

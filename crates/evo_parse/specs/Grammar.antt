@@ -1,0 +1,88 @@
+-- The grammar of the first form: which tokens are which library and which client.
+--
+--   library  = [ function { separator function } ]
+--   function = "public" "func" NAME "(" ")" "->" "Int" "{" "return" INTEGER "}"
+--   client   = "import" NAME { separator print }
+--   print    = "print" "(" term { "," term } ")"
+--   term     = INTEGER | NAME "(" ")"
+--
+-- A separator is a semicolon, or nothing where the next token stands on a later line than the one before it.
+-- The "(" behind `print` and behind a term's NAME, and the INTEGER behind `return`, stand on the line of the token before them.
+use Rattle.std.specs.Prelude.{ℕ, List, [], ◌∷◌, codes}
+use Rattle.evo_base.specs.declared.token.TokenKind.TheVariants as kind
+use Rattle.evo_base.specs.declared.token.Token.{Token}
+use Rattle.evo_tree.specs.declared.Function.{Function}
+use Rattle.evo_tree.specs.declared.Term.{Term}
+use Rattle.evo_tree.specs.declared.Term.TheVariants as term
+use Rattle.evo_tree.specs.declared.Print.{Print}
+use Rattle.evo_tree.specs.declared.Client.{Client}
+use Rattle.evo_combinators.specs.Rule.{Only, Led, Or, Then, Many, Repeat}
+use Rattle.evo_combinators.specs.Guard.{On}
+use Rattle.evo_lex.specs.Cut.{Cut}
+use Rattle.evo_parse.specs.Pieces.{Piece, pieces, mark, mark_here, word, name, integer, integer_here}
+
+abbrev pub Rule : Type 0 → Type 1
+Rule A = List Piece → A → Type 0
+
+-- "(" ")" "->" "Int"
+abbrev pub IsSignature : Rule (Unit {0})
+IsSignature = Led (mark kind.OpenParenthesis) (λ _. Led (mark kind.CloseParenthesis) (λ _. Led (mark kind.Arrow) (λ _. Led (word (codes "Int")) (λ _. Only tt))))
+
+-- "{" "return" INTEGER "}"
+abbrev pub IsBody : Rule ℕ
+IsBody = Led (mark kind.OpenBrace) (λ _. Led (word (codes "return")) (λ _. Led integer_here (λ value. Led (mark kind.CloseBrace) (λ _. Only value))))
+
+abbrev pub function : List ℕ → ℕ → Function
+function n v = record { name = n; value = v }
+
+-- "func" NAME signature body
+abbrev pub IsRestOfFunction : Rule Function
+IsRestOfFunction = Led (word (codes "func")) (λ _. Led name (λ n. Then IsSignature (λ _. Then IsBody (λ v. Only (function n v)))))
+
+-- "public" and the rest
+abbrev pub IsFunction : Rule Function
+IsFunction = Led (word (codes "public")) (λ _. IsRestOfFunction)
+
+-- a semicolon, or nothing before a token on a later line; and then an item
+abbrev pub IsFurther : {A : Type 0} → Rule A → Rule A
+IsFurther Item = Or (Led (mark kind.Semicolon) (λ _. Item)) (On (λ p. p.below) Item)
+
+-- [ function { separator function } ]
+abbrev pub IsLibrary : Rule (List Function)
+IsLibrary = Or (Then IsFunction (λ f. Then (Repeat (IsFurther IsFunction)) (λ fs. Only (f ∷ fs)))) (Only [])
+
+-- NAME "(" ")"
+abbrev pub IsCall : Rule Term
+IsCall = Led name (λ n. Led (mark_here kind.OpenParenthesis) (λ _. Led (mark kind.CloseParenthesis) (λ _. Only (term.Call n))))
+
+-- INTEGER | call
+abbrev pub IsTerm : Rule Term
+IsTerm = Or (Led integer (λ v. Only (term.Integer v))) IsCall
+
+-- term { "," term }
+abbrev pub IsTerms : Rule (List Term)
+IsTerms = Then IsTerm (λ t. Then (Many (mark kind.Comma) (λ _. IsTerm)) (λ ts. Only (t ∷ ts)))
+
+-- "(" terms ")"
+abbrev pub IsRestOfPrint : Rule Print
+IsRestOfPrint = Led (mark_here kind.OpenParenthesis) (λ _. Then IsTerms (λ ts. Led (mark kind.CloseParenthesis) (λ _. Only (record { terms = ts }))))
+
+-- "print" and the rest
+abbrev pub IsPrint : Rule Print
+IsPrint = Led (word (codes "print")) (λ _. IsRestOfPrint)
+
+-- "import" NAME { separator print }
+abbrev pub IsClient : Rule Client
+IsClient = Led (word (codes "import")) (λ _. Led name (λ n. Then (Repeat (IsFurther IsPrint)) (λ ps. Only (record { «import» = n; prints = ps }))))
+
+-- The text is tokens that are this library.
+pub record SpellsLibrary (text : List ℕ) (functions : List Function) : Type 0 where
+  pub tokens : List Token
+  pub cut : Cut text tokens
+  pub spells : IsLibrary (pieces text 1 tokens) functions
+
+-- The text is tokens that are this client.
+pub record SpellsClient (text : List ℕ) (client : Client) : Type 0 where
+  pub tokens : List Token
+  pub cut : Cut text tokens
+  pub spells : IsClient (pieces text 1 tokens) client

@@ -1,0 +1,5 @@
+pub mod Words
+pub mod Pieces
+pub mod Grammar
+pub mod Read
+pub mod Facts

@@ -1,0 +1,4 @@
+pub mod Interface
+pub mod Calls
+pub mod Accepted
+pub mod Rules

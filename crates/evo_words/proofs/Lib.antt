@@ -1,0 +1,3 @@
+pub mod KeywordLemmas
+pub mod Lists
+pub mod Modules

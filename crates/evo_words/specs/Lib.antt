@@ -1,0 +1,4 @@
+pub mod Keywords
+pub mod Module
+pub mod Words
+pub mod Laws

@@ -1,0 +1,5 @@
+pub mod Status
+pub mod Files
+pub mod Loading
+pub mod Answer
+pub mod Top

@@ -1,0 +1,556 @@
+//! What the top call answers over files and sinks in memory, and what the edge does.
+//!
+//! A table is one text: `~` ends a row, and `|` ends a column. The columns are the words, the old
+//! library, the new one and the client (`-` where the file is not there), the status, what is on
+//! `out` and on `err`, and the numbers of the calls on the files, on `out` and on `err` that fail.
+
+use crate::status::Status;
+use crate::top::swevo;
+use evo_base::{
+    DiskFiles, Failed, Files, GetFault, Key, List, Mark, MemFiles, MemSink, Name, Part,
+    ProtocolName, Sink, StdSink,
+};
+use evo_machine::{End, Machine};
+use std::alloc::Global;
+use std::fs;
+use std::process::Abort;
+use std::test::Fail;
+
+const ONE: &str = "public func f() -> Int { return 1 }";
+
+const TWO: &str = "public func f() -> Int { return 2 }";
+
+const CLIENT: &str = "import Lib\nprint(f())";
+
+const JOB: &str = "evolve Lib old.swift new.swift main.swift 10";
+
+const OLD_REFUSED: &str = "old.swift:1:1: not built yet\n";
+
+const NEW_REFUSED: &str = "new.swift:1:1: not built yet\n";
+
+const CLIENT_REFUSED: &str = "main.swift:1:1: not built yet\n";
+
+// Words of many kinds.
+const WORDS: &str = "\
+evolve Lib old.swift new.swift main.swift 10|public func f() -> Int { return 1 }|public func f() -> Int { return 2 }|import Lib\nprint(f())|0|2\n|~\
+evolve _a old.swift new.swift main.swift 10|public func f() -> Int { return 1 }|public func f() -> Int { return 2 }|import Lib\nprint(f())|4||main.swift:1:1: not built yet\n~\
+evolve é old.swift new.swift main.swift 10|public func f() -> Int { return 1 }|public func f() -> Int { return 2 }|import Lib\nprint(f())|4||main.swift:1:1: not built yet\n~\
+evolve 名前 old.swift new.swift main.swift 10|public func f() -> Int { return 1 }|public func f() -> Int { return 2 }|import Lib\nprint(f())|4||main.swift:1:1: not built yet\n~\
+evolve f old.swift new.swift main.swift 10|public func f() -> Int { return 1 }|public func f() -> Int { return 2 }|import Lib\nprint(f())|4||old.swift:1:1: not built yet\n~\
+evolve 1a old.swift new.swift main.swift 10|public func f() -> Int { return 1 }|public func f() -> Int { return 2 }|import Lib\nprint(f())|3||words not understood\n~\
+evolve _ old.swift new.swift main.swift 10|public func f() -> Int { return 1 }|public func f() -> Int { return 2 }|import Lib\nprint(f())|3||words not understood\n~\
+evolve Swift old.swift new.swift main.swift 10|public func f() -> Int { return 1 }|public func f() -> Int { return 2 }|import Lib\nprint(f())|3||words not understood\n~\
+evolve class old.swift new.swift main.swift 10|public func f() -> Int { return 1 }|public func f() -> Int { return 2 }|import Lib\nprint(f())|3||words not understood\n~\
+evolve a-b old.swift new.swift main.swift 10|public func f() -> Int { return 1 }|public func f() -> Int { return 2 }|import Lib\nprint(f())|3||words not understood\n~\
+evolve  old.swift new.swift main.swift 10|public func f() -> Int { return 1 }|public func f() -> Int { return 2 }|import Lib\nprint(f())|3||words not understood\n~\
+evolve Lib old.swift new.swift main.swift 0|public func f() -> Int { return 1 }|public func f() -> Int { return 2 }|import Lib\nprint(f())|2||out of ticks\n~\
+evolve Lib old.swift new.swift main.swift 1|public func f() -> Int { return 1 }|public func f() -> Int { return 2 }|import Lib\nprint(f())|2||out of ticks\n~\
+evolve Lib old.swift new.swift main.swift 2|public func f() -> Int { return 1 }|public func f() -> Int { return 2 }|import Lib\nprint(f())|0|2\n|~\
+evolve Lib old.swift new.swift main.swift 18446744073709551615|public func f() -> Int { return 1 }|public func f() -> Int { return 2 }|import Lib\nprint(f())|0|2\n|~\
+evolve Lib old.swift new.swift main.swift 18446744073709551616|public func f() -> Int { return 1 }|public func f() -> Int { return 2 }|import Lib\nprint(f())|3||words not understood\n~\
+evolve Lib old.swift new.swift main.swift 00|public func f() -> Int { return 1 }|public func f() -> Int { return 2 }|import Lib\nprint(f())|3||words not understood\n~\
+evolve Lib old.swift new.swift main.swift 01|public func f() -> Int { return 1 }|public func f() -> Int { return 2 }|import Lib\nprint(f())|3||words not understood\n~\
+evolve Lib old.swift new.swift main.swift -1|public func f() -> Int { return 1 }|public func f() -> Int { return 2 }|import Lib\nprint(f())|3||words not understood\n~\
+evolve Lib old.swift new.swift main.swift +1|public func f() -> Int { return 1 }|public func f() -> Int { return 2 }|import Lib\nprint(f())|3||words not understood\n~\
+evolve Lib old.swift new.swift main.swift ten|public func f() -> Int { return 1 }|public func f() -> Int { return 2 }|import Lib\nprint(f())|3||words not understood\n~\
+evolve Lib old.swift new.swift main.swift 1.0|public func f() -> Int { return 1 }|public func f() -> Int { return 2 }|import Lib\nprint(f())|3||words not understood\n~\
+evolve Lib old.swift new.swift main.swift |public func f() -> Int { return 1 }|public func f() -> Int { return 2 }|import Lib\nprint(f())|3||words not understood\n~\
+evolve Lib old.swift|public func f() -> Int { return 1 }|public func f() -> Int { return 2 }|import Lib\nprint(f())|3||words not understood\n~\
+evolve Lib old.swift new.swift main.swift|public func f() -> Int { return 1 }|public func f() -> Int { return 2 }|import Lib\nprint(f())|3||words not understood\n~\
+evolve Lib old.swift new.swift main.swift 2 2|public func f() -> Int { return 1 }|public func f() -> Int { return 2 }|import Lib\nprint(f())|3||words not understood\n~\
+evolve Lib  new.swift main.swift 2|public func f() -> Int { return 1 }|public func f() -> Int { return 2 }|import Lib\nprint(f())|3||words not understood\n~\
+evolve|public func f() -> Int { return 1 }|public func f() -> Int { return 2 }|import Lib\nprint(f())|3||words not understood\n~\
+Evolve Lib old.swift new.swift main.swift 2|public func f() -> Int { return 1 }|public func f() -> Int { return 2 }|import Lib\nprint(f())|3||words not understood\n~\
+|public func f() -> Int { return 1 }|public func f() -> Int { return 2 }|import Lib\nprint(f())|3||words not understood\n~\
+evolve Lib old.swift old.swift main.swift 2|public func f() -> Int { return 1 }|public func f() -> Int { return 2 }|import Lib\nprint(f())|0|1\n|";
+
+// Files that are there, are accepted, and break a rule or none.
+const FILES: &str = "\
+evolve Lib old.swift new.swift main.swift 10|-|-|-|6||cannot read old.swift\n~\
+evolve Lib old.swift new.swift main.swift 10|public func f() -> Int { return 1 }|-|-|6||cannot read new.swift\n~\
+evolve Lib old.swift new.swift main.swift 10|public func f() -> Int { return 1 }|public func f() -> Int { return 2 }|-|6||cannot read main.swift\n~\
+evolve Lib old.swift new.swift main.swift 10|let x = 1|-|-|4||old.swift:1:1: not built yet\n~\
+evolve Lib old.swift new.swift main.swift 10|public func f() -> Int { return 1 }|let x = 1|-|4||new.swift:1:1: not built yet\n~\
+evolve Lib old.swift new.swift main.swift 10|public func f() -> Int { return 1 }|public func f() -> Int { return 2 }|let x = 1|4||main.swift:1:1: not built yet\n~\
+evolve Lib old.swift new.swift main.swift 10|public func f() -> Int { return 1 }|||4||new.swift:1:1: not built yet\n~\
+evolve Lib old.swift new.swift main.swift 10|public func g() -> Int { return 3 }\npublic func f() -> Int { return 4 }|public func f() -> Int { return 1 }|import Lib\nprint(f())|4||new.swift:1:1: not built yet\n~\
+evolve Lib old.swift new.swift main.swift 10|public func f() -> Int { return 1 }|public func g() -> Int { return 3 }\npublic func f() -> Int { return 4 }|import Lib\nprint(f())|0|4\n|~\
+evolve Lib old.swift new.swift main.swift 10|public func f() -> Int { return 1 }|public func g() -> Int { return 3 }\npublic func f() -> Int { return 4 }|import Lib\nprint(g())|4||main.swift:1:1: not built yet\n~\
+evolve Lib old.swift new.swift main.swift 10|public func g() -> Int { return 3 }\npublic func f() -> Int { return 4 }|public func g() -> Int { return 3 }\npublic func f() -> Int { return 4 }|import Lib\nprint(g())|0|3\n|~\
+evolve Lib old.swift new.swift main.swift 10||public func f() -> Int { return 1 }|import Lib\nprint(f())|4||main.swift:1:1: not built yet\n~\
+evolve Lib old.swift new.swift main.swift 10|||import Lib|0||";
+
+// Clients that are accepted, and what they print.
+const RUNS: &str = "\
+evolve Lib old.swift new.swift main.swift 0|public func f() -> Int { return 1 }|public func f() -> Int { return 2 }|import Lib|2||out of ticks\n~\
+evolve Lib old.swift new.swift main.swift 1|public func f() -> Int { return 1 }|public func f() -> Int { return 2 }|import Lib|0||~\
+evolve Lib old.swift new.swift main.swift 1|public func f() -> Int { return 1 }|public func f() -> Int { return 2 }|\n import Lib\n\n|0||~\
+evolve Lib old.swift new.swift main.swift 1|public func f() -> Int { return 1 }|public func f() -> Int { return 2 }|import Lib\nprint(1)\nprint(0)|0|1\n0\n|~\
+evolve Lib old.swift new.swift main.swift 1|public func f() -> Int { return 1 }|public func f() -> Int { return 2 }|import Lib\nprint(7)\nprint(f())|2|7\n|out of ticks\n~\
+evolve Lib old.swift new.swift main.swift 2|public func f() -> Int { return 1 }|public func f() -> Int { return 2 }|import Lib;print(f());print(f())|2|2\n|out of ticks\n~\
+evolve Lib old.swift new.swift main.swift 3|public func f() -> Int { return 1 }|public func f() -> Int { return 2 }|import Lib;print(f());print(f())|0|2\n2\n|~\
+evolve Lib old.swift new.swift main.swift 2|public func f() -> Int { return 1 }|public func f() -> Int { return 2 }|import Lib\nprint(f(), f())|2||out of ticks\n~\
+evolve Lib old.swift new.swift main.swift 2|public func f() -> Int { return 1 }|public func f() -> Int { return 2 }|import Lib\nprint(1, f(), 2)\n|0|1 2 2\n|~\
+evolve Lib old.swift new.swift main.swift 1|public func f() -> Int { return 1 }|public func f() -> Int { return 2 }|import Lib;\nprint(3)\n;print(4)|0|3\n4\n|~\
+evolve Lib old.swift new.swift main.swift 1|public func f() -> Int { return 1 }|public func f() -> Int { return 2 }|import Lib\r\nprint(1)\r\n|0|1\n|~\
+evolve Lib old.swift new.swift main.swift 1|public func f() -> Int { return 1 }|public func f() -> Int { return 2 }|import\tLib\n\tprint(\t2 , 3 )|0|2 3\n|~\
+evolve Lib old.swift new.swift main.swift 2|public func f() -> Int { return 1 }|public func f() -> Int { return 2 }|import Lib\nprint(\nf(\n)\n,\n5\n)|0|2 5\n|~\
+evolve Lib old.swift new.swift main.swift 1|public func f() -> Int { return 1 }|public func f() -> Int { return 2 }|import Lib\nprint(007, 00)|0|7 0\n|~\
+evolve Lib old.swift new.swift main.swift 1|public func f() -> Int { return 1 }|public func f() -> Int { return 2 }|import Lib\nprint(9223372036854775807)|0|9223372036854775807\n|";
+
+// Libraries that are accepted.
+const ACCEPTED: &str = "\
+evolve Lib old.swift new.swift main.swift 2|public func f() -> Int { return 1 }|public func f() -> Int { return 1 }|import Lib\nprint(f())|0|1\n|~\
+evolve Lib old.swift new.swift main.swift 2|public func f()->Int{return 0}\n|public func f()->Int{return 0}\n|import Lib\nprint(f())|0|0\n|~\
+evolve Lib old.swift new.swift main.swift 2|public func f() -> Int { return 007 }|public func f() -> Int { return 007 }|import Lib\nprint(f())|0|7\n|~\
+evolve Lib old.swift new.swift main.swift 2|\tpublic\tfunc f()\t-> Int\t{ return\t5 }\t|\tpublic\tfunc f()\t-> Int\t{ return\t5 }\t|import Lib\nprint(f())|0|5\n|~\
+evolve Lib old.swift new.swift main.swift 2|public\nfunc\nf\n(\n)\n->\nInt\n{\nreturn 8\n}|public\nfunc\nf\n(\n)\n->\nInt\n{\nreturn 8\n}|import Lib\nprint(f())|0|8\n|~\
+evolve Lib old.swift new.swift main.swift 2|public func f() -> Int { return 9223372036854775807 }|public func f() -> Int { return 9223372036854775807 }|import Lib\nprint(f())|0|9223372036854775807\n|~\
+evolve Lib old.swift new.swift main.swift 2|public func g() -> Int { return 3 };public func f() -> Int { return 4 }|public func g() -> Int { return 3 };public func f() -> Int { return 4 }|import Lib\nprint(f())|0|4\n|~\
+evolve Lib old.swift new.swift main.swift 2|public func g() -> Int { return 3 }\r\npublic func f() -> Int { return 4 }\r\n|public func g() -> Int { return 3 }\r\npublic func f() -> Int { return 4 }\r\n|import Lib\nprint(f())|0|4\n|~\
+evolve Lib old.swift new.swift main.swift 2|public func f() -> Int { return 4 } ;\n\npublic func _1() -> Int { return 3 }|public func f() -> Int { return 4 } ;\n\npublic func _1() -> Int { return 3 }|import Lib\nprint(f())|0|4\n|";
+
+// Calls that fail: of the files, of `out` and of `err`.
+const FAILING: &str = "\
+evolve Lib old.swift new.swift main.swift 10|public func f() -> Int { return 1 }|public func f() -> Int { return 2 }|import Lib\nprint(f())|6||cannot read old.swift\n|1|1|0~\
+evolve Lib old.swift new.swift main.swift 10|public func f() -> Int { return 1 }|public func f() -> Int { return 2 }|import Lib\nprint(f())|6||cannot read new.swift\n|2|1|0~\
+evolve Lib old.swift new.swift main.swift 10|public func f() -> Int { return 1 }|public func f() -> Int { return 2 }|import Lib\nprint(f())|6||cannot read main.swift\n|3|1|0~\
+evolve Lib old.swift new.swift main.swift 10|public func f() -> Int { return 1 }|public func f() -> Int { return 2 }|import Lib\nprint(f())|0|2\n||4|2|1~\
+evolve Lib old.swift new.swift main.swift 10|public func f() -> Int { return 1 }|public func f() -> Int { return 2 }|import Lib\nprint(f())|7|2||0|1|0~\
+evolve Lib old.swift new.swift main.swift 10|public func f() -> Int { return 1 }|public func f() -> Int { return 2 }|import Lib\nprint(1)\nprint(2)|7|1\n2||0|2|0~\
+evolve Lib old.swift new.swift main.swift 10|public func f() -> Int { return 1 }|public func f() -> Int { return 2 }|import Lib\nprint(1)\nprint(2, 3)\nprint(4)|7|1\n2 ||0|2|0~\
+evolve Lib old.swift new.swift main.swift 0|public func f() -> Int { return 1 }|public func f() -> Int { return 2 }|import Lib\nprint(1)\nprint(2)|7||out of|0|1|1~\
+evolve Lib old.swift new.swift main.swift 10|public func f() -> Int { return 1 }|public func f() -> Int { return 2 }|import Lib\nlet x = 1|7||main.swift:1:1:|0|1|1~\
+evolve Lib old.swift new.swift main.swift 10|public func f() -> Int { return 1 }|public func f() -> Int { return 2 }|import Lib\nprint(f())|7||cannot read|2|1|1~\
+evolve Lib old.swift new.swift main.swift ten|public func f() -> Int { return 1 }|public func f() -> Int { return 2 }|import Lib\nprint(f())|7||words not |1|1|1~\
+evolve Lib old.swift new.swift main.swift 1|public func f() -> Int { return 1 }|public func f() -> Int { return 2 }|import Lib\nprint(f())|2||out of ticks\n|0|1|2";
+
+// Texts that are no client of a library with `f`.
+const CLIENTS: &str = "\
+~\
+import~\
+import Other~\
+import Lib import Lib~\
+import Lib print(1)~\
+import Lib\nlet x = 1~\
+import Lib\nf()~\
+import Lib\nprint(print())~\
+import Lib\nprint(f)~\
+import Lib\nprint(f\n())~\
+import Lib\nprint\n(1)~\
+import Lib\nprint()~\
+import Lib\nprint(1,)~\
+import Lib\nprint(1 2)~\
+import Lib\nprint(1~\
+import Lib\nprint(1)print(2)~\
+import Lib\nprint(1)\rprint(2)~\
+import Lib\nprint(1);;print(2)~\
+import Lib\nprint(1);~\
+import Lib;~\
+;import Lib~\
+import Lib\n// two\nprint(f())~\
+import Lib /* a library */\nprint(f())~\
+import Lib\nprint(9223372036854775808)~\
+import Lib\nprint(-1)~\
+import Lib\nprint(0x1)~\
+import Lib\nprint(1_0)~\
+import Lib\nprint(f(1))~\
+import Lib\nprint(f())\u{a0}~\
+import é";
+
+// Texts that are no library.
+const LIBRARIES: &str = "\
+public func f() -> Int { return 9223372036854775808 }~\
+public func f() -> Int { return -1 }~\
+public func f() -> Int { return 1 }\npublic func f() -> Int { return 1 }~\
+public func f() -> Int { return 1 } public func g() -> Int { return 2 }~\
+public func f() -> Int { return 1 }\rpublic func g() -> Int { return 2 }~\
+public func f() -> Int { return 1 };;public func g() -> Int { return 2 }~\
+;public func f() -> Int { return 1 }~\
+public func f() -> Int { return 1 };~\
+public func f() -> Int { return\n1 }~\
+public func f() -> Int { return 1; }~\
+public func f() -> Int { 1 }~\
+public func f() -> Int { return 1~\
+public func f() -> Int { return 1 } // one~\
+public func f() -> Int { return f() }~\
+public func f() -> Bool { return 1 }~\
+public func f(x: Int) -> Int { return 1 }~\
+public func f() - > Int { return 1 }~\
+func f() -> Int { return 1 }~\
+public let f = 1~\
+import Lib~\
+public func print() -> Int { return 2 }~\
+public func Int() -> Int { return 2 }~\
+public func Swift() -> Int { return 2 }~\
+public func Lib() -> Int { return 2 }~\
+public func class() -> Int { return 2 }~\
+public func _() -> Int { return 2 }~\
+public func 1g() -> Int { return 2 }~\
+public func é() -> Int { return 2 }~\
+\u{feff}public func f() -> Int { return 1 }";
+
+fn name(alloc: Global, text: &str) -> Result<Name, Fail> {
+    Ok(Name::from_vec(Vec::from_slice(alloc, text.as_bytes())?))
+}
+
+// Words with one space between them.
+fn words(alloc: Global, line: &str) -> Result<Vec<Name>, Fail> {
+    let mut words = Vec::new(alloc);
+    for word in line.split(' ') {
+        words.push(name(alloc, word)?)?;
+    }
+    Ok(words)
+}
+
+// What a job is done over.
+#[derive(Drop)]
+struct World {
+    files: MemFiles,
+    out: MemSink,
+    err: MemSink,
+}
+
+impl World {
+    fn new(alloc: Global, room: u64) -> Result<World, Fail> {
+        Ok(World {
+            files: MemFiles::new(alloc)?,
+            out: MemSink::new(alloc, room)?,
+            err: MemSink::new(alloc, 100)?,
+        })
+    }
+
+    // Prepares a file, where there is a text for it.
+    fn add(&mut self, alloc: Global, at: &str, text: &str) -> Result<(), Fail> {
+        if text != "-" {
+            let text = Vec::from_slice(alloc, text.as_bytes())?;
+            self.files.add(name(alloc, at)?, text, 0)?;
+        }
+        Ok(())
+    }
+
+    fn add_all(&mut self, alloc: Global, old: &str, new: &str, client: &str) -> Result<(), Fail> {
+        self.add(alloc, "old.swift", old)?;
+        self.add(alloc, "new.swift", new)?;
+        self.add(alloc, "main.swift", client)
+    }
+
+    // Lists the numbers of the calls that fail. No call has the number 0.
+    fn fail(&mut self, get: u64, out: u64, err: u64) -> Result<(), Fail> {
+        self.files.fail(get)?;
+        self.out.fail(out)?;
+        self.err.fail(err)?;
+        Ok(())
+    }
+
+    // Does what the words ask for, and looks at what came of it.
+    fn check(
+        &mut self,
+        rt: &impl Abort,
+        alloc: Global,
+        line: &str,
+        (code, out, err): (&str, &str, &str),
+    ) -> Result<(), Fail> {
+        let words = words(alloc, line)?;
+        let mut bench = None;
+        let status = swevo(
+            alloc,
+            &words,
+            &mut self.files,
+            &mut self.out,
+            &mut self.err,
+            &mut bench,
+        );
+        assert_eq!(rt; str::from_utf8(self.err.bytes())?, err, "err of {line}");
+        assert_eq!(rt; str::from_utf8(self.out.bytes())?, out, "out of {line}");
+        let number = format!(in alloc; "{}", status.code())?;
+        assert_eq!(rt; number.as_str(), code, "status of {line}");
+        assert_eq!(rt; end_of(&bench), end_for(status), "machine of {line}");
+        Ok(())
+    }
+}
+
+// How the run of the machine ended that a job left, where it left one.
+fn end_of(bench: &Option<Machine>) -> Option<Option<End>> {
+    match bench {
+        Some(machine) => Some(machine.end()),
+        None => None,
+    }
+}
+
+// How the run of a job with this status ends.
+fn end_for(status: Status) -> Option<Option<End>> {
+    match status {
+        Status::Done => Some(Some(End::Done)),
+        Status::OutOfTicks => Some(Some(End::Budget)),
+        _ => None,
+    }
+}
+
+fn column(row: &str, at: usize) -> &str {
+    row.split('|').nth(at).unwrap_or("")
+}
+
+fn number(row: &str, at: usize) -> u64 {
+    column(row, at).parse().unwrap_or(0)
+}
+
+fn check_table(rt: &impl Abort, alloc: Global, table: &str) -> Result<(), Fail> {
+    for row in table.split('~') {
+        let mut world = World::new(alloc, 100)?;
+        world.add_all(alloc, column(row, 1), column(row, 2), column(row, 3))?;
+        world.fail(number(row, 7), number(row, 8), number(row, 9))?;
+        let expected = (column(row, 4), column(row, 5), column(row, 6));
+        world.check(rt, alloc, column(row, 0), expected)?;
+    }
+    Ok(())
+}
+
+#[test]
+fn words_of_many_kinds(rt: HostRuntime) -> Result<(), Fail> {
+    check_table(&rt, rt.alloc(), WORDS)
+}
+
+#[test]
+fn files_and_rules(rt: HostRuntime) -> Result<(), Fail> {
+    check_table(&rt, rt.alloc(), FILES)
+}
+
+#[test]
+fn runs_of_clients(rt: HostRuntime) -> Result<(), Fail> {
+    check_table(&rt, rt.alloc(), RUNS)
+}
+
+#[test]
+fn libraries_that_are_accepted(rt: HostRuntime) -> Result<(), Fail> {
+    check_table(&rt, rt.alloc(), ACCEPTED)
+}
+
+#[test]
+fn calls_that_fail(rt: HostRuntime) -> Result<(), Fail> {
+    let alloc = rt.alloc();
+    check_table(&rt, alloc, FAILING)?;
+    let mut world = World::new(alloc, 5)?;
+    world.add_all(alloc, ONE, TWO, "import Lib\nprint(12)\nprint(345)")?;
+    world.check(&rt, alloc, JOB, ("7", "12\n34", ""))
+}
+
+#[test]
+fn clients_that_are_not_built(rt: HostRuntime) -> Result<(), Fail> {
+    let alloc = rt.alloc();
+    for client in CLIENTS.split('~') {
+        let mut world = World::new(alloc, 100)?;
+        world.add_all(alloc, ONE, TWO, client)?;
+        world.check(&rt, alloc, JOB, ("4", "", CLIENT_REFUSED))?;
+    }
+    Ok(())
+}
+
+#[test]
+fn libraries_that_are_not_built(rt: HostRuntime) -> Result<(), Fail> {
+    let alloc = rt.alloc();
+    for library in LIBRARIES.split('~') {
+        let mut world = World::new(alloc, 100)?;
+        world.add_all(alloc, library, library, CLIENT)?;
+        world.check(&rt, alloc, JOB, ("4", "", OLD_REFUSED))?;
+        let mut world = World::new(alloc, 100)?;
+        world.add_all(alloc, "", library, CLIENT)?;
+        world.check(&rt, alloc, JOB, ("4", "", NEW_REFUSED))?;
+    }
+    Ok(())
+}
+
+// So many functions, each of which returns its number.
+fn library_of(alloc: Global, count: u64) -> Result<String, Fail> {
+    let mut text = String::new(alloc);
+    for i in 0..count {
+        text.push_str(&format!(in alloc; "public func f{i}() -> Int {{ return {i} }}\n")?)?;
+    }
+    Ok(text)
+}
+
+// A text with white space behind it, up to this length in bytes.
+fn padded(alloc: Global, text: &str, len: usize) -> Result<String, Fail> {
+    let mut padded = String::from_str(alloc, text)?;
+    for _ in text.len()..len {
+        padded.push(' ')?;
+    }
+    Ok(padded)
+}
+
+#[test]
+fn numbers_of_functions(rt: HostRuntime) -> Result<(), Fail> {
+    let alloc = rt.alloc();
+    let most = library_of(alloc, 4096)?;
+    let more = library_of(alloc, 4097)?;
+    let client = "import Lib\nprint(f0(), f4095())";
+    let mut world = World::new(alloc, 100)?;
+    world.add_all(alloc, &most, &most, client)?;
+    world.check(&rt, alloc, JOB, ("0", "0 4095\n", ""))?;
+    let mut world = World::new(alloc, 100)?;
+    world.add_all(alloc, &more, &more, client)?;
+    world.check(&rt, alloc, JOB, ("4", "", OLD_REFUSED))?;
+    let mut world = World::new(alloc, 100)?;
+    world.add_all(alloc, &most, &more, client)?;
+    world.check(&rt, alloc, JOB, ("4", "", NEW_REFUSED))
+}
+
+#[test]
+fn lengths_of_files(rt: HostRuntime) -> Result<(), Fail> {
+    let alloc = rt.alloc();
+    for (extra, expected) in [(0, ("0", "2\n", "")), (1, ("4", "", CLIENT_REFUSED))] {
+        let mut world = World::new(alloc, 100)?;
+        let old = padded(alloc, ONE, 1_048_576)?;
+        let new = padded(alloc, TWO, 1_048_576)?;
+        let client = padded(alloc, CLIENT, 1_048_576 + extra)?;
+        world.add_all(alloc, &old, &new, &client)?;
+        world.check(&rt, alloc, JOB, expected)?;
+    }
+    let mut world = World::new(alloc, 100)?;
+    world.add_all(alloc, &padded(alloc, ONE, 1_048_577)?, TWO, CLIENT)?;
+    world.check(&rt, alloc, JOB, ("4", "", OLD_REFUSED))?;
+    let mut world = World::new(alloc, 100)?;
+    world.add_all(alloc, ONE, &padded(alloc, TWO, 1_048_577)?, CLIENT)?;
+    world.check(&rt, alloc, JOB, ("4", "", NEW_REFUSED))
+}
+
+#[test]
+fn files_on_disk(rt: HostRuntime) -> Result<(), Fail> {
+    let alloc = rt.alloc();
+    let at = name(alloc, "swevo_files_on_disk")?;
+    let mut files = DiskFiles::new(&rt);
+    files.put(&at, b"old bytes, of which nothing is left")?;
+    files.put(&at, b"0123456789")?;
+    for (limit, found) in [
+        (0, "0"),
+        (3, "0123"),
+        (9, "0123456789"),
+        (10, "0123456789"),
+        (1_048_576, "0123456789"),
+    ] {
+        let bytes = files.get(alloc, &at, limit)?;
+        assert_eq!(rt; bytes.as_slice(), found.as_bytes(), "limit {limit}");
+    }
+    fs::remove_file(&rt, "swevo_files_on_disk")?;
+    assert_eq!(rt; files.get(alloc, &at, 10).err(), Some(GetFault::Failed));
+    let nowhere = name(alloc, "swevo_no_such_folder/file")?;
+    assert_eq!(rt; files.put(&nowhere, b"text"), Err(Failed {}));
+    Ok(())
+}
+
+#[test]
+fn streams(rt: HostRuntime) -> Result<(), Fail> {
+    let mut text = Vec::new(rt.alloc());
+    let mut sink = StdSink::new(&mut text);
+    sink.write(b"one\n")?;
+    sink.write(b"")?;
+    sink.write(b"two")?;
+    assert_eq!(rt; text.as_slice(), b"one\ntwo".as_slice());
+    let mut room = [0u8; 5];
+    let mut full = StdSink::new(room.as_mut_slice());
+    assert_eq!(rt; full.write(b"one\n"), Ok(()));
+    assert_eq!(rt; full.write(b"two\n"), Err(Failed {}));
+    assert_eq!(rt; room, *b"one\nt");
+    Ok(())
+}
+
+#[test]
+fn a_job_on_disk(rt: HostRuntime) -> Result<(), Fail> {
+    let alloc = rt.alloc();
+    let mut files = DiskFiles::new(&rt);
+    for (at, text) in [
+        ("swevo_job_old", ONE),
+        ("swevo_job_new", TWO),
+        ("swevo_job_main", CLIENT),
+    ] {
+        files.put(&name(alloc, at)?, text.as_bytes())?;
+    }
+    let mut text = Vec::new(alloc);
+    let mut told = Vec::new(alloc);
+    let mut out = StdSink::new(&mut text);
+    let mut err = StdSink::new(&mut told);
+    let mut bench = None;
+    let words = words(
+        alloc,
+        "evolve Lib swevo_job_old swevo_job_new swevo_job_main 2",
+    )?;
+    let status = swevo(alloc, &words, &mut files, &mut out, &mut err, &mut bench);
+    for at in ["swevo_job_old", "swevo_job_new", "swevo_job_main"] {
+        fs::remove_file(&rt, at)?;
+    }
+    let later = swevo(alloc, &words, &mut files, &mut out, &mut err, &mut bench);
+    assert_eq!(rt; status.code(), 0);
+    assert_eq!(rt; later.code(), 6);
+    assert_eq!(rt; text.as_slice(), b"2\n".as_slice());
+    assert_eq!(rt; told.as_slice(), b"cannot read swevo_job_old\n".as_slice());
+    Ok(())
+}
+
+fn names(alloc: Global, texts: &[&str]) -> Result<List<Name>, Fail> {
+    let mut names = Vec::new(alloc);
+    for text in texts {
+        names.push(name(alloc, text)?)?;
+    }
+    Ok(List::from_vec(names))
+}
+
+fn protocol(alloc: Global, text: &str) -> Result<ProtocolName, Fail> {
+    Ok(ProtocolName {
+        module: name(alloc, "Lib")?,
+        name: name(alloc, text)?,
+    })
+}
+
+// Each mark once.
+fn marks(alloc: Global) -> Result<List<Mark>, Fail> {
+    Ok(List::from_vec(vec![in alloc;
+        Mark::Get,
+        Mark::Set,
+        Mark::Requirement,
+        Mark::RequirementGet,
+        Mark::RequirementSet,
+        Mark::Case,
+        Mark::Is,
+        Mark::Take,
+        Mark::New,
+        Mark::Size,
+        Mark::Instance,
+        Mark::Class,
+        Mark::Protocol,
+        Mark::Copy,
+        Mark::Override,
+        Mark::Start,
+        Mark::Conformance(protocol(alloc, "P")?),
+        Mark::Inherited(protocol(alloc, "Q")?),
+        Mark::Associated(protocol(alloc, "R")?),
+        Mark::Thunk(name(alloc, "Lib.P.f")?),
+    ]?))
+}
+
+fn key(alloc: Global, labels: Option<List<Name>>) -> Result<Key, Fail> {
+    Ok(Key {
+        module: name(alloc, "Lib")?,
+        context: names(alloc, &["Outer", "Inner"])?,
+        base: name(alloc, "f")?,
+        labels,
+        part: Part {
+            marks: marks(alloc)?,
+        },
+    })
+}
+
+#[test]
+fn copies_of_keys(rt: HostRuntime) -> Result<(), Fail> {
+    let alloc = rt.alloc();
+    let labels = names(alloc, &["x", "_"])?;
+    for key in [key(alloc, None)?, key(alloc, Some(labels))?] {
+        let copy = key.copy(alloc)?;
+        assert_eq!(rt; copy.base.as_slice(), b"f".as_slice());
+        assert_eq!(rt; copy.part.marks.as_slice().len(), 20);
+        assert_eq!(rt;
+            format!(in alloc; "{copy:?}")?,
+            format!(in alloc; "{key:?}")?
+        );
+    }
+    Ok(())
+}
