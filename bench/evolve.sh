@@ -11,16 +11,23 @@ trap 'rm -rf -- "$folder"' EXIT
 cd -- "$folder"
 
 # The number of the function that the Nth call calls: each number once, in no order of the library.
-# The old function I returns I, and the new one 3 * I + 1.
+# The old function I returns I, and the new one 3 * I + 1. Of four functions the first two are
+# inlinable: the client keeps the first one's old value, and the second calls the third, which is not
+# inlinable and gives its new value.
 write_files() {
     awk -v n="$1" 'BEGIN {
         print "import Lib" >"main.swift"
         for (i = 0; i < n; i++) {
             called = (i * 409 + 7) % n
-            printf "public func f%d() -> Int { return %d }\n", i, i >"old.swift"
-            printf "public func f%d() -> Int { return %d }\n", i, 3 * i + 1 >"new.swift"
+            attribute = i % 4 < 2 ? "@inlinable " : ""
+            body = i % 4 == 1 ? sprintf("f%d()", i + 1) : i
+            new_body = i % 4 == 1 ? 0 : 3 * i + 1
+            printf "%spublic func f%d() -> Int { return %s }\n", attribute, i, body >"old.swift"
+            printf "%spublic func f%d() -> Int { return %s }\n", attribute, i, new_body >"new.swift"
             printf "print(f%d())\n", called >"main.swift"
-            print 3 * called + 1 >"expected"
+            if (called % 4 == 0) print called >"expected"
+            else if (called % 4 == 1) print 3 * (called + 1) + 1 >"expected"
+            else print 3 * called + 1 >"expected"
         }
     }'
 }

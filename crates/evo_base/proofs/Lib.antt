@@ -1,4 +1,6 @@
 pub mod Names
+pub mod Counting
+pub mod Loops
 pub mod Places
 pub mod Plans
 pub mod Puts

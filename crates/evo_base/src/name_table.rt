@@ -1,4 +1,4 @@
-ghost use Rattle.std.specs.Prelude.{◌≡◌, [], IfOk, OnErr};
+ghost use Rattle.std.specs.Prelude.{◌≡◌, [], IfOk, OnErr, Some, None, MatchOption, length, slice_get};
 ghost use Rattle.evo_base.specs.Names.{position_of, AreDistinct, Inserts};
 
 use indexmap::IndexSet;
@@ -51,5 +51,20 @@ impl NameTable {
         ensures distinct { AreDistinct self.now }
     {
         self.names.get_index_of(name)
+    }
+
+    /// How many names there are.
+    pub fn len(&self) -> usize
+        ensures { result ≡ length self.now }
+    {
+        self.names.len()
+    }
+
+    /// The name at a place, counted from 0.
+    pub fn name_at(&self, place: usize) -> Option<&[u8]>
+        ensures { MatchOption result (slice_get self.now place ≡ None) (λ n. slice_get self.now place ≡ Some n.now) }
+    {
+        let name = self.names.get_index(place)?;
+        Some(name.as_slice())
     }
 }

@@ -1,6 +1,6 @@
-pub mod Cuts
 pub mod Texts
-pub mod Symbols
+pub mod Images
+pub mod Exports
 pub mod Simulates
 pub mod Links
-pub mod Faults
+pub mod Parts

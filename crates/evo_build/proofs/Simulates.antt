@@ -1,11 +1,10 @@
--- The machine does what the source does: a simulation, term by term and print by print.
+-- The machine does what the source does: a simulation, call by call, term by term and print by print.
 use Rattle.std.proofs.Common.{◌≡◌, ℕ, zero, suc, ◌+◌, ◌≤◌, Bool, true, List, [], ◌∷◌, ◌++◌, length, map, take, drop, Option, Some, None, refl, sym, ◌∙◌, ap, subst, arith, append_assoc}
-use Rattle.std.specs.Prelude.{slice_get, if◌then◌else◌, IsSome, nat_le, nat_eq, replicate}
+use Rattle.std.specs.Prelude.{slice_get, if◌then◌else◌, nat_le, nat_eq, replicate}
 use Rattle.std.specs.Fmt.{decimal}
 use Rattle.std.specs.List.{join_with_byte}
 use Rattle.std.proofs.lemmas.Bool.{le-leb}
 use Rattle.std.proofs.lemmas.List.{append-nil, length-append, length-map, map-append, take_at, drop_at}
-use Rattle.evo_tree.specs.declared.Function.{Function as Declared}
 use Rattle.evo_tree.specs.declared.Print.{Print}
 use Rattle.evo_tree.specs.declared.Term.{Term}
 use Rattle.evo_tree.specs.declared.Term.TheVariants.{Integer, Call}
@@ -14,15 +13,18 @@ use Rattle.evo_machine.specs.declared.image.Instr.{Instr}
 use Rattle.evo_machine.specs.declared.image.Instr.TheVariants as Op
 use Rattle.evo_machine.specs.declared.state.Word.{Word}
 use Rattle.evo_machine.specs.declared.state.Word.TheVariants.{Empty, Int}
+use Rattle.evo_machine.specs.declared.state.Frame.{Frame}
 use Rattle.evo_machine.specs.declared.state.State.{State}
 use Rattle.evo_machine.specs.declared.machine.End.TheVariants.{Done, Budget}
+use Rattle.evo_machine.specs.Image.{number_of, start_symbol}
 use Rattle.evo_machine.specs.Machine.{Run, Step, Goes, Writes, Ends, Reaches, ends, goes, writes, step, act, instr_at, enter, enter_function, written, leave, read, integers, integer_at, with_first, print_line, line_of as machine_line, Executes, fault, after_line as machine_after}
 use Rattle.evo_machine.specs.declared.machine.MachineFault.TheVariants as why
-use Rattle.evo_build.specs.Meaning.{Evaluated, gives, stops, Ending, done, spent, stuck, value_of, values_of, with_value, called, line_of, prints_of, printed, run_of}
-use Rattle.evo_tree.specs.Calls.{calls_of, calls_of_terms}
-use Rattle.evo_build.specs.Objects.{symbol_of, library_function, terms_code, slots_of, print_code, prints_code, most_terms, start_function}
-use Rattle.evo_build.specs.Works.{EndsAs, DoesAs, HasAll, image_of}
-use Rattle.evo_build.proofs.Symbols.{Found, found_of, start_number, start_found}
+use Rattle.evo_build.specs.Meaning.{Program, Side, client_side, Body, body_of, Evaluated, gives, stops, Ending, done, spent, stuck, value_of, entered, not_entered, call_of, values_of, with_value, and_then, line_of, prints_of, printed, run_of}
+use Rattle.evo_build.specs.Objects.{function_of, term_code, terms_code, slots_of, print_code, prints_code, most_terms, start_function}
+use Rattle.evo_build.specs.Works.{EndsAs, DoesAs}
+
+le_one : 0 + 1 ≤ 1
+le_one = omega arith
 
 le_true : (a b : ℕ) → a ≤ b → nat_le a b ≡ true
 le_true a b h = le-leb a b h
@@ -86,209 +88,271 @@ lines (n ∷ []) = refl
 lines (n ∷ m ∷ ns) = ap (λ (l : List ℕ). decimal n ++ 32 ∷ l) (lines (m ∷ ns)) ∙ sym (append_assoc (decimal n) (32 ∷ join_with_byte 32 (map decimal (m ∷ ns))) (10 ∷ []))
 
 -- as many values as terms
-abbrev CountIs : Evaluated → ℕ → Type 0
+abbrev CountIs : Evaluated (List ℕ) → ℕ → Type 0
 CountIs (gives ns left) k = length ns ≡ k
 CountIs (stops e) k = Unit {0}
 
-count_of : (fs : List Declared) (t : ℕ) (terms : List Term) → CountIs (values_of fs t terms) (length terms)
-count_of fs t [] = refl
-count_of fs t (Integer n ∷ ts) = one (values_of fs t ts) (count_of fs t ts)
+count_of : (p : Program) (t : ℕ) (terms : List Term) → CountIs (values_of p t terms) (length terms)
+count_of p t [] = refl
+count_of p t (x ∷ ts) = at (value_of x t (call_of p t client_side)) (λ left. count_of p left ts)
   where
-    one : (e : Evaluated) → CountIs e (length ts) → CountIs (with_value n e) (suc (length ts))
-    one (gives ns left) c = ap suc c
-    one (stops e) c = tt
-count_of fs t (Call name ∷ ts) = at (value_of fs name) t (λ left. count_of fs left ts)
-  where
-    one : (n : ℕ) (e : Evaluated) → CountIs e (length ts) → CountIs (with_value n e) (suc (length ts))
+    one : (n : ℕ) (e : Evaluated (List ℕ)) → CountIs e (length ts) → CountIs (with_value n e) (suc (length ts))
     one n (gives ns left) c = ap suc c
     one n (stops e) c = tt
 
-    at : (v : Option ℕ) (t : ℕ) → ((left : ℕ) → CountIs (values_of fs left ts) (length ts)) → CountIs (called v t (λ n left. with_value n (values_of fs left ts))) (suc (length ts))
-    at None t c = tt
-    at (Some n) zero c = tt
-    at (Some n) (suc left) c = one n (values_of fs left ts) (c left)
+    at : (v : Evaluated ℕ) → ((left : ℕ) → CountIs (values_of p left ts) (length ts)) → CountIs (and_then v (λ left. values_of p left ts)) (suc (length ts))
+    at (gives n left) c = one n (values_of p left ts) (c left)
+    at (stops e) c = tt
 
 -- enough words for each print
 abbrev FitsIn : List Print → ℕ → Type 0
 FitsIn [] n = Unit {0}
 FitsIn (p ∷ ps) n = (length p.terms ≤ n) × FitsIn ps n
 
--- The image of a library and a top level that stands behind it.
-module _ (library : List ℕ) (fs : List Declared) (image : List Function) (number : ℕ) (start : Function)
-    (found : slice_get image number ≡ Some start)
-    (functions : (name : List ℕ) (value : ℕ) → value_of fs name ≡ Some value → Found image library (symbol_of library name) value) where
-  -- the top level at an instruction, with these words and ticks
-  abbrev st : ℕ → List Word → ℕ → State
-  st at words ticks = record { top = record { function = number; at = at; words = words; to = 0 }; below = []; ticks = ticks }
+abbrev out_of_ticks : Run
+out_of_ticks = record { out = []; ending = Budget }
 
-  -- what finishes the second state finishes the first
-  abbrev Comes : State → State → Type 0
-  Comes s s' = (run : Run) → Reaches image s' run → Reaches image s run
+-- what finishes the second state finishes the first
+abbrev Comes : List Function → State → State → Type 0
+Comes image s s' = (run : Run) → Reaches image s' run → Reaches image s run
 
-  abbrev out_of_ticks : Run
-  out_of_ticks = record { out = []; ending = Budget }
+abbrev pub Calls : Type 1
+Calls = Side → List ℕ → Type 0
 
-  int_step : (at k n t : ℕ) (words : List Word) → slice_get start.code at ≡ Some (Op.Int k n) → k + 1 ≤ length words → Comes (st at words t) (st (at + 1) (written words k (Int n ∷ [])) t)
-  int_step at k n t words here fits run r =
-      let e = step_at image (st at words t) start (Op.Int k n) found here in
-      goes (e ∙ picks _ _ _ (le_true (k + 1) (length words) fits)) r
+-- each call of a term is one of these
+abbrev pub GoodTerm : Calls → Side → Term → Type 0
+GoodTerm Good side (Integer n) = Unit {0}
+GoodTerm Good side (Call name) = Good side name
 
-  -- the function of a call, in its frame over that of the top level
-  abbrev in_callee : ℕ → ℕ → ℕ → ℕ → List Word → List Word → ℕ → State
-  in_callee callee inner at k ws words ticks = record {
-    top = record { function = callee; at = inner; words = ws; to = k };
-    below = record { function = number; at = at + 1; words = words; to = 0 } ∷ [];
-    ticks = ticks;
-  }
+-- the body that a call runs, with its function in the image
+pub record Known (image : List Function) (p : Program) (symbols : Side → List ℕ → List ℕ) (Good : Calls) (side : Side) (name : List ℕ) : Type 0 where
+  pub body : Body
+  pub is : body_of p side name ≡ Some body
+  pub calls : GoodTerm Good body.side body.term
+  pub number : ℕ
+  pub exported : Bool
+  pub named : number_of image (symbols side name) ≡ Some number
+  pub found : slice_get image number ≡ Some (function_of (symbols side name) exported (symbols body.side) body.term)
 
-  module _ (name : List ℕ) (value at k : ℕ) (words : List Word) (p : Found image library (symbol_of library name) value)
-      (here : slice_get start.code at ≡ Some (Op.Call (symbol_of library name) k 1)) (fits : k + 1 ≤ length words) where
-    enters : (t : ℕ) → step image (st at words t) ≡ Goes (in_callee p.number 0 at k (Empty ∷ []) words t)
+-- a frame stands at this instruction
+record At_instr (image : List Function) (frame : Frame) (i : Instr) : Type 0 where
+  function : Function
+  found : slice_get image frame.function ≡ Some function
+  here : slice_get function.code frame.at ≡ Some i
+
+-- calls over any frames, by the ticks that are left
+module _ (image : List Function) (p : Program) (symbols : Side → List ℕ → List ℕ) (Good : Calls) (known : (side : Side) (name : List ℕ) → Good side name → Known image p symbols Good side name) where
+  abbrev on : Frame → List Frame → ℕ → State
+  on frame below t = record { top = frame; below = below; ticks = t }
+
+  -- a frame behind an instruction that put an integer into a slot
+  abbrev with_int : Frame → ℕ → ℕ → Frame
+  with_int frame slot n = record frame { at = frame.at + 1; words = written frame.words slot (Int n ∷ []) }
+
+  -- an instruction that puts what was evaluated into a slot
+  abbrev ValueDoes : Frame → List Frame → ℕ → ℕ → Evaluated ℕ → Type 0
+  ValueDoes frame below t slot (gives n left) = Comes image (on frame below t) (on (with_int frame slot n) below left)
+  ValueDoes frame below t slot (stops done) = ⊥
+  ValueDoes frame below t slot (stops spent) = Reaches image (on frame below t) out_of_ticks
+  ValueDoes frame below t slot (stops stuck) = ⊥
+
+  step_here : (frame : Frame) (below : List Frame) (t : ℕ) (i : Instr) (a : At_instr image frame i) → step image (on frame below t) ≡ act image (Some a.function) (Some i) (on frame below t)
+  step_here frame below t i a = step_at image (on frame below t) a.function i a.found a.here
+
+  int_does : (frame : Frame) (below : List Frame) (t slot n : ℕ) → At_instr image frame (Op.Int slot n) → slot + 1 ≤ length frame.words → ValueDoes frame below t slot (gives n t)
+  int_does frame below t slot n a fits run r = goes (step_here frame below t (Op.Int slot n) a ∙ picks _ _ _ (le_true (slot + 1) (length frame.words) fits)) r
+
+  -- a call, its callee's frame, and what the caller goes on with
+  module _ (side : Side) (name : List ℕ) (k : Known image p symbols Good side name) (frame : Frame) (below : List Frame) (slot : ℕ)
+      (a : At_instr image frame (Op.Call (symbols side name) slot 1)) (fits : slot + 1 ≤ length frame.words) where
+    abbrev callee : Function
+    callee = function_of (symbols side name) k.exported (symbols k.body.side) k.body.term
+
+    abbrev inner : ℕ → List Word → Frame
+    inner at words = record { function = k.number; at = at; words = words; to = slot }
+
+    abbrev caller : List Frame
+    caller = record frame { at = frame.at + 1 } ∷ below
+
+    enters : (t : ℕ) → step image (on frame below t) ≡ Goes (on (inner 0 (Empty ∷ [])) caller t)
     enters t =
-        step_at image (st at words t) start (Op.Call (symbol_of library name) k 1) found here
-        ∙ ap (λ o. enter image o k 1 (st at words t)) p.named
-        ∙ ap (λ f. enter_function p.number f k 1 (st at words t)) p.found
-        ∙ picks _ _ _ (le_true (k + 1) (length words) fits)
+        step_here frame below t (Op.Call (symbols side name) slot 1) a
+        ∙ ap (λ o. enter image o slot 1 (on frame below t)) k.named
+        ∙ ap (λ f. enter_function k.number f slot 1 (on frame below t)) k.found
+        ∙ picks _ _ _ (le_true (slot + 1) (length frame.words) fits)
 
-    callee_step : (inner t : ℕ) (ws : List Word) (i : Instr) → slice_get (library_function library p.source).code inner ≡ Some i → step image (in_callee p.number inner at k ws words t) ≡ act image (Some (library_function library p.source)) (Some i) (in_callee p.number inner at k ws words t)
-    callee_step inner t ws i is = step_at image (in_callee p.number inner at k ws words t) (library_function library p.source) i p.found is
+    inner_step : (at t : ℕ) (words : List Word) (i : Instr) → slice_get callee.code at ≡ Some i → step image (on (inner at words) caller t) ≡ act image (Some callee) (Some i) (on (inner at words) caller t)
+    inner_step at t words i is = step_at image (on (inner at words) caller t) callee i k.found is
 
-    call_spent : Reaches image (st at words 0) out_of_ticks
-    call_spent = goes (enters 0) (ends (callee_step 0 0 (Empty ∷ []) Op.Tick refl))
+    call_spent : Reaches image (on frame below 0) out_of_ticks
+    call_spent = goes (enters 0) (ends (inner_step 0 0 (Empty ∷ []) Op.Tick refl))
 
-    call_goes : (t : ℕ) → Comes (st at words (suc t)) (st (at + 1) (written words k (Int value ∷ [])) t)
-    call_goes t run r =
-        let v = p.source.value in
-        let last : step image (in_callee p.number 2 at k (Int v ∷ []) words t) ≡ Goes (st (at + 1) (written words k (Int v ∷ [])) t) =
-        callee_step 2 t (Int v ∷ []) (Op.Return 0 1) refl ∙ picks _ _ _ (le_true (k + 1) (length words) fits) in
-        let r' : Reaches image (st (at + 1) (written words k (Int v ∷ [])) t) run = subst (λ (n : ℕ). Reaches image (st (at + 1) (written words k (Int n ∷ [])) t) run) (sym p.value_is) r in
-        goes (enters (suc t)) (goes (callee_step 0 (suc t) (Empty ∷ []) Op.Tick refl) (goes (callee_step 1 t (Empty ∷ []) (Op.Int 0 v) refl) (goes last r')))
+    begins : (left : ℕ) → Comes image (on frame below (suc left)) (on (inner 1 (Empty ∷ [])) caller left)
+    begins left run r = goes (enters (suc left)) (goes (inner_step 0 (suc left) (Empty ∷ []) Op.Tick refl) r)
 
-  -- what the code of terms does, by what the terms evaluate to: before are the values that are there already
-  abbrev TermsDo : ℕ → List Term → List ℕ → List Word → ℕ → Evaluated → Type 0
-  TermsDo at terms before rest t (gives ns left) = (rest' : List Word) × (length rest' + length ns ≡ length rest) × Comes (st at (filled before rest) t) (st (at + length terms) (filled (before ++ ns) rest') left)
-  TermsDo at terms before rest t (stops done) = ⊥
-  TermsDo at terms before rest t (stops spent) = Reaches image (st at (filled before rest) t) out_of_ticks
-  TermsDo at terms before rest t (stops stuck) = ⊥
+    returns : (n left : ℕ) → Comes image (on (inner 2 (Int n ∷ [])) caller left) (on (with_int frame slot n) below left)
+    returns n left run r = goes (inner_step 2 left (Int n ∷ []) (Op.Return 0 1) refl ∙ picks _ _ _ (le_true (slot + 1) (length frame.words) fits)) r
 
-  -- one term's value, and then the others
-  then_terms : (at n t left : ℕ) (x : Term) (terms : List Term) (before : List ℕ) (w : Word) (rest : List Word) → Comes (st at (filled before (w ∷ rest)) t) (st (at + 1) (filled (before ++ n ∷ []) rest) left)
-      → (e : Evaluated) → TermsDo (at + 1) terms (before ++ n ∷ []) rest left e → TermsDo at (x ∷ terms) before (w ∷ rest) t (with_value n e)
-  then_terms at n t left x terms before w rest first (gives ns last) (rest', long, more) = (
-    rest',
-    omega arith,
-    λ run r.
-        let place : at + suc (length terms) ≡ at + 1 + length terms = omega arith in
-        let values : before ++ n ∷ ns ≡ (before ++ n ∷ []) ++ ns = sym (append_assoc before (n ∷ []) ns) in
-        first run (more run (rw (← place, ← values) r)),
-  )
-  then_terms at n t left x terms before w rest first (stops done) h = absurd h
-  then_terms at n t left x terms before w rest first (stops spent) h = first out_of_ticks h
-  then_terms at n t left x terms before w rest first (stops stuck) h = absurd h
+    -- what the body does, the call does
+    through : (left : ℕ) (e : Evaluated ℕ) → ValueDoes (inner 1 (Empty ∷ [])) caller left 0 e → ValueDoes frame below (suc left) slot e
+    through left (gives n last) comes = λ run r. begins left run (comes run (returns n last run r))
+    through left (stops done) h = absurd h
+    through left (stops spent) h = begins left out_of_ticks h
+    through left (stops stuck) h = absurd h
 
-  terms_do : (terms : List Term) (at k t : ℕ) (before : List ℕ) (rest : List Word) → k ≡ length before → length terms ≤ length rest → At start.code at (terms_code library k terms) → HasAll fs (calls_of_terms terms) → TermsDo at terms before rest t (values_of fs t terms)
-  terms_do [] at k t before rest e fits code known =
-      let place : at + 0 ≡ at = omega arith in (
-        rest,
-        omega arith,
-        λ run r.
-            subst (λ (l : List ℕ). Reaches image (st at (filled l rest) t) run) (append-nil before) (subst (λ (a : ℕ). Reaches image (st a (filled (before ++ []) rest) t) run) place r),
-      )
-  terms_do (x ∷ ts) at k t before [] e fits code known = absurd (omega arith)
-  terms_do (Integer n ∷ ts) at k t before (w ∷ rest) e fits code known =
-      let room : k + 1 ≤ length (filled before (w ∷ rest)) = omega (arith, filled-length before (w ∷ rest)) in
-      let first : Comes (st at (filled before (w ∷ rest)) t) (st (at + 1) (filled (before ++ n ∷ []) rest) t) =
-      λ run r. int_step at k n t (filled before (w ∷ rest)) code.0 room run (rw (filled-put before n w rest k e) r) in
-      then_terms at n t t (Integer n) ts before w rest first (values_of fs t ts)
-      (terms_do ts (at + 1) (k + 1) t (before ++ n ∷ []) rest (ap (λ (m : ℕ). m + 1) e ∙ sym (length-append before (n ∷ []))) (omega arith) code.1 known)
-  terms_do (Call name ∷ ts) at k t before (w ∷ rest) e fits code known = by_value (value_of fs name) refl known.0 t
-      (λ n left. terms_do ts (at + 1) (k + 1) left (before ++ n ∷ []) rest (ap (λ (m : ℕ). m + 1) e ∙ sym (length-append before (n ∷ []))) (omega arith) code.1 known.1)
-    where
-      by_value : (v : Option ℕ) → value_of fs name ≡ v → IsSome v → (t : ℕ)
-          → ((n left : ℕ) → TermsDo (at + 1) ts (before ++ n ∷ []) rest left (values_of fs left ts))
-          → TermsDo at (Call name ∷ ts) before (w ∷ rest) t (called v t (λ n left. with_value n (values_of fs left ts)))
-      by_value None is some t more = absurd cc
-      by_value (Some n) is some zero more =
-          call_spent name n at k (filled before (w ∷ rest)) (functions name n is) code.0 (omega (arith, filled-length before (w ∷ rest)))
-      by_value (Some n) is some (suc t) more =
-          let room : k + 1 ≤ length (filled before (w ∷ rest)) = omega (arith, filled-length before (w ∷ rest)) in
-          let first : Comes (st at (filled before (w ∷ rest)) (suc t)) (st (at + 1) (filled (before ++ n ∷ []) rest) t) =
-          λ run r. call_goes name n at k (filled before (w ∷ rest)) (functions name n is) code.0 room t run (rw (filled-put before n w rest k e) r) in
-          then_terms at n (suc t) t (Call name) ts before w rest first (values_of fs t ts) (more n t)
+    body_at : At_instr image (inner 1 (Empty ∷ [])) (term_code (symbols k.body.side) 0 k.body.term)
+    body_at = record { function = callee; found = k.found; here = refl }
 
-  -- code that stands in front of other code
-  At-front : (xs ys : List Instr) (at : ℕ) → At start.code at (xs ++ ys) → At start.code at xs
-  At-front [] ys at h = tt
-  At-front (x ∷ xs) ys at h = (h.0, At-front xs ys (at + 1) h.1)
+  -- a term, where its calls do what they give
+  term_does : (side : Side) (term : Term) (frame : Frame) (below : List Frame) (t slot : ℕ) → GoodTerm Good side term → At_instr image frame (term_code (symbols side) slot term) → slot + 1 ≤ length frame.words
+      → ((name : List ℕ) → Good side name → At_instr image frame (Op.Call (symbols side name) slot 1) → ValueDoes frame below t slot (call_of p t side name))
+      → ValueDoes frame below t slot (value_of term t (call_of p t side))
+  term_does side (Integer n) frame below t slot good a fits calls = int_does frame below t slot n a fits
+  term_does side (Call name) frame below t slot good a fits calls = calls name good a
 
-  At-back : (xs ys : List Instr) (at : ℕ) → At start.code at (xs ++ ys) → At start.code (at + length xs) ys
-  At-back [] ys at h = let place : at + 0 ≡ at = omega arith in subst (λ (a : ℕ). At start.code a ys) (sym place) h
-  At-back (x ∷ xs) ys at h = let place : at + 1 + length xs ≡ at + suc (length xs) = omega arith in subst (λ (a : ℕ). At start.code a ys) place (At-back xs ys (at + 1) h.1)
+  call_does : (t : ℕ) (side : Side) (name : List ℕ) → Good side name → (frame : Frame) (below : List Frame) (slot : ℕ) → At_instr image frame (Op.Call (symbols side name) slot 1) → slot + 1 ≤ length frame.words
+      → ValueDoes frame below t slot (call_of p t side name)
+  call_does zero side name good frame below slot a fits =
+      let k = known side name good in
+      subst (λ (o : Option Body). ValueDoes frame below 0 slot (not_entered o)) (sym k.is) (call_spent side name k frame below slot a fits)
+  call_does (suc left) side name good frame below slot a fits =
+      let k = known side name good in
+      let inside = term_does k.body.side k.body.term (inner side name k frame below slot a fits 1 (Empty ∷ [])) (caller side name k frame below slot a fits) left 0 k.calls (body_at side name k frame below slot a fits) le_one
+      (λ other good' a'. call_does left k.body.side other good' (inner side name k frame below slot a fits 1 (Empty ∷ [])) (caller side name k frame below slot a fits) 0 a' le_one) in
+      subst (λ (o : Option Body). ValueDoes frame below (suc left) slot (entered o left (call_of p left))) (sym k.is) (through side name k frame below slot a fits left (value_of k.body.term left (call_of p left k.body.side)) inside)
 
-  terms_code-length : (terms : List Term) (k : ℕ) → length (terms_code library k terms) ≡ length terms
-  terms_code-length [] k = refl
-  terms_code-length (t ∷ ts) k = ap suc (terms_code-length ts (k + 1))
+  -- The top level of a client.
+  module _ (number : ℕ) (start : Function) (found : slice_get image number ≡ Some start) where
+    abbrev top : ℕ → List Word → Frame
+    top at words = record { function = number; at = at; words = words; to = 0 }
 
-  -- a run of the machine that is this run of the source
-  abbrev Does : State → List ℕ → Ending → Type 0
-  Does s out done = Reaches image s (record { out = out; ending = Done })
-  Does s out spent = Reaches image s (record { out = out; ending = Budget })
-  Does s out stuck = ⊥
+    abbrev st : ℕ → List Word → ℕ → State
+    st at words ticks = on (top at words) [] ticks
 
-  Does-line : (s s' : State) (line out : List ℕ) (e : Ending) → ((run : Run) → Reaches image s' run → Reaches image s (machine_after line run)) → Does s' out e → Does s (line ++ out) e
-  Does-line s s' line out done comes h = comes _ h
-  Does-line s s' line out spent comes h = comes _ h
-  Does-line s s' line out stuck comes h = h
+    abbrev pub GoodTerms : List Term → Type 0
+    GoodTerms [] = Unit {0}
+    GoodTerms (x ∷ xs) = GoodTerm Good client_side x × GoodTerms xs
 
-  -- the line of a print, behind the code of its terms
-  print_step : (at t : ℕ) (terms : List Term) (ns : List ℕ) (rest : List Word) → slice_get start.code at ≡ Some (Op.Print (slots_of 0 terms)) → length terms ≡ length ns
-      → (run : Run) → Reaches image (st (at + 1) (filled ns rest) t) run → Reaches image (st at (filled ns rest) t) (machine_after (line_of ns) run)
-  print_step at t terms ns rest here same run r =
-      let e = step_at image (st at (filled ns rest) t) start (Op.Print (slots_of 0 terms)) found here in
-      let values : integers (filled ns rest) (slots_of 0 terms) ≡ Some ns = filled-integers [] ns rest terms 0 refl same in
-      let q : step image (st at (filled ns rest) t) ≡ Writes (line_of ns) (st (at + 1) (filled ns rest) t) =
-      e ∙ ap (λ o. print_line o (st at (filled ns rest) t)) values ∙ ap (λ (l : List ℕ). Writes l (st (at + 1) (filled ns rest) t)) (lines ns) in
-      writes q r
+    -- what the code of terms does, by what the terms evaluate to: before are the values that are there already
+    abbrev TermsDo : ℕ → List Term → List ℕ → List Word → ℕ → Evaluated (List ℕ) → Type 0
+    TermsDo at terms before rest t (gives ns left) = (rest' : List Word) × (length rest' + length ns ≡ length rest) × Comes image (st at (filled before rest) t) (st (at + length terms) (filled (before ++ ns) rest') left)
+    TermsDo at terms before rest t (stops done) = ⊥
+    TermsDo at terms before rest t (stops spent) = Reaches image (st at (filled before rest) t) out_of_ticks
+    TermsDo at terms before rest t (stops stuck) = ⊥
 
-  HasAll-front : (xs ys : List (List ℕ)) → HasAll fs (xs ++ ys) → HasAll fs xs
-  HasAll-front [] ys h = tt
-  HasAll-front (x ∷ xs) ys h = (h.0, HasAll-front xs ys h.1)
+    -- one term's value, and then the others
+    then_terms : (at n t left : ℕ) (x : Term) (terms : List Term) (before : List ℕ) (w : Word) (rest : List Word) → Comes image (st at (filled before (w ∷ rest)) t) (st (at + 1) (filled (before ++ n ∷ []) rest) left)
+        → (e : Evaluated (List ℕ)) → TermsDo (at + 1) terms (before ++ n ∷ []) rest left e → TermsDo at (x ∷ terms) before (w ∷ rest) t (with_value n e)
+    then_terms at n t left x terms before w rest first (gives ns last) (rest', long, more) = (
+      rest',
+      omega arith,
+      λ run r.
+          let place : at + suc (length terms) ≡ at + 1 + length terms = omega arith in
+          let values : before ++ n ∷ ns ≡ (before ++ n ∷ []) ++ ns = sym (append_assoc before (n ∷ []) ns) in
+          first run (more run (rw (← place, ← values) r)),
+    )
+    then_terms at n t left x terms before w rest first (stops done) h = absurd h
+    then_terms at n t left x terms before w rest first (stops spent) h = first out_of_ticks h
+    then_terms at n t left x terms before w rest first (stops stuck) h = absurd h
 
-  HasAll-back : (xs ys : List (List ℕ)) → HasAll fs (xs ++ ys) → HasAll fs ys
-  HasAll-back [] ys h = h
-  HasAll-back (x ∷ xs) ys h = HasAll-back xs ys h.1
+    by_value : (at k t : ℕ) (x : Term) (ts : List Term) (before : List ℕ) (w : Word) (rest : List Word) → k ≡ length before
+        → (e : Evaluated ℕ) → ValueDoes (top at (filled before (w ∷ rest))) [] t k e
+        → ((n left : ℕ) → TermsDo (at + 1) ts (before ++ n ∷ []) rest left (values_of p left ts))
+        → TermsDo at (x ∷ ts) before (w ∷ rest) t (and_then e (λ left. values_of p left ts))
+    by_value at k t x ts before w rest e (gives n left) does more =
+        then_terms at n t left x ts before w rest (λ run r. does run (rw (filled-put before n w rest k e) r)) (values_of p left ts) (more n left)
+    by_value at k t x ts before w rest e (stops done) does more = absurd does
+    by_value at k t x ts before w rest e (stops spent) does more = does
+    by_value at k t x ts before w rest e (stops stuck) does more = absurd does
 
-  last_step : (at t : ℕ) (words : List Word) → start.result ≡ 0 → slice_get start.code at ≡ Some (Op.Return 0 0) → step image (st at words t) ≡ Ends Done
-  last_step at t words none here =
-      let s = st at words t in
-      step_at image s start (Op.Return 0 0) found here
-      ∙ ap (λ (n : ℕ). if nat_eq 0 n then leave (read words 0 0) s else fault why.Size s) none
-      ∙ ap (λ (b : Bool). leave (if b then Some (take 0 (drop 0 words)) else None) s) (le_true 0 (length words) (omega arith))
+    terms_do : (terms : List Term) (at k t : ℕ) (before : List ℕ) (rest : List Word) → k ≡ length before → length terms ≤ length rest → At start.code at (terms_code (symbols client_side) k terms) → GoodTerms terms → TermsDo at terms before rest t (values_of p t terms)
+    terms_do [] at k t before rest e fits code good =
+        let place : at + 0 ≡ at = omega arith in (
+          rest,
+          omega arith,
+          λ run r.
+              subst (λ (l : List ℕ). Reaches image (st at (filled l rest) t) run) (append-nil before) (subst (λ (a : ℕ). Reaches image (st a (filled (before ++ []) rest) t) run) place r),
+        )
+    terms_do (x ∷ ts) at k t before [] e fits code good = absurd (omega arith)
+    terms_do (x ∷ ts) at k t before (w ∷ rest) e fits code good =
+        let room : k + 1 ≤ length (filled before (w ∷ rest)) = omega (arith, filled-length before (w ∷ rest)) in
+        let a : At_instr image (top at (filled before (w ∷ rest))) (term_code (symbols client_side) k x) = record { function = start; found = found; here = code.0 } in
+        by_value at k t x ts before w rest e (value_of x t (call_of p t client_side))
+        (term_does client_side x (top at (filled before (w ∷ rest))) [] t k good.0 a room (λ name g b. call_does t client_side name g (top at (filled before (w ∷ rest))) [] k b room))
+        (λ n left. terms_do ts (at + 1) (k + 1) left (before ++ n ∷ []) rest (ap (λ (m : ℕ). m + 1) e ∙ sym (length-append before (n ∷ []))) (omega arith) code.1 good.1)
 
-  prints_do : (ps : List Print) (at t : ℕ) (words : List Word) → FitsIn ps (length words) → start.result ≡ 0 → At start.code at (prints_code library ps ++ Op.Return 0 0 ∷ []) → HasAll fs (calls_of ps)
-      → Does (st at words t) (prints_of fs t ps).out (prints_of fs t ps).ending
-  prints_do [] at t words fits none code known = ends (last_step at t words none code.0)
-  prints_do (p ∷ ps) at t words fits none code known =
-      by_values (values_of fs t p.terms) (count_of fs t p.terms)
-      (terms_do p.terms at 0 t [] words refl fits.0 (At-front (terms_code library 0 p.terms) _ at parts) (HasAll-front (calls_of_terms p.terms) (calls_of ps) known))
-      (λ left words' same. prints_do ps (at + length p.terms + 1) left words' (subst (FitsIn ps) (sym same) fits.1) none behind.1 (HasAll-back (calls_of_terms p.terms) (calls_of ps) known))
-    where
-      parts : At start.code at (terms_code library 0 p.terms ++ (Op.Print (slots_of 0 p.terms) ∷ (prints_code library ps ++ Op.Return 0 0 ∷ [])))
-      parts = subst (At start.code at) (append_assoc (print_code library p.terms) (prints_code library ps) (Op.Return 0 0 ∷ []) ∙ append_assoc (terms_code library 0 p.terms) (Op.Print (slots_of 0 p.terms) ∷ []) (prints_code library ps ++ Op.Return 0 0 ∷ [])) code
+    -- code that stands in front of other code
+    At-front : (xs ys : List Instr) (at : ℕ) → At start.code at (xs ++ ys) → At start.code at xs
+    At-front [] ys at h = tt
+    At-front (x ∷ xs) ys at h = (h.0, At-front xs ys (at + 1) h.1)
 
-      behind : At start.code (at + length p.terms) (Op.Print (slots_of 0 p.terms) ∷ (prints_code library ps ++ Op.Return 0 0 ∷ []))
-      behind = subst (λ (n : ℕ). At start.code (at + n) (Op.Print (slots_of 0 p.terms) ∷ (prints_code library ps ++ Op.Return 0 0 ∷ []))) (terms_code-length p.terms 0) (At-back (terms_code library 0 p.terms) _ at parts)
+    At-back : (xs ys : List Instr) (at : ℕ) → At start.code at (xs ++ ys) → At start.code (at + length xs) ys
+    At-back [] ys at h = let place : at + 0 ≡ at = omega arith in subst (λ (a : ℕ). At start.code a ys) (sym place) h
+    At-back (x ∷ xs) ys at h = let place : at + 1 + length xs ≡ at + suc (length xs) = omega arith in subst (λ (a : ℕ). At start.code a ys) place (At-back xs ys (at + 1) h.1)
 
-      by_values : (e : Evaluated) → CountIs e (length p.terms) → TermsDo at p.terms [] words t e
-          → ((left : ℕ) (words' : List Word) → length words' ≡ length words → Does (st (at + length p.terms + 1) words' left) (prints_of fs left ps).out (prints_of fs left ps).ending)
-          → Does (st at words t) (printed e (λ left. prints_of fs left ps)).out (printed e (λ left. prints_of fs left ps)).ending
-      by_values (gives ns left) count (rest', long, comes) more =
-          Does-line (st at words t) (st (at + length p.terms + 1) (filled ns rest') left) (line_of ns) _ _
-          (λ run r. comes _ (print_step (at + length p.terms) left p.terms ns rest' behind.0 (sym count) run r))
-          (more left (filled ns rest') (filled-length ns rest' ∙ (let e : length ns + length rest' ≡ length words = omega arith in e)))
-      by_values (stops done) count h more = absurd h
-      by_values (stops spent) count h more = h
-      by_values (stops stuck) count h more = absurd h
+    terms_code-length : (terms : List Term) (k : ℕ) → length (terms_code (symbols client_side) k terms) ≡ length terms
+    terms_code-length [] k = refl
+    terms_code-length (t ∷ ts) k = ap suc (terms_code-length ts (k + 1))
+
+    -- a run of the machine that is this run of the source
+    abbrev Does : State → List ℕ → Ending → Type 0
+    Does s out done = Reaches image s (record { out = out; ending = Done })
+    Does s out spent = Reaches image s (record { out = out; ending = Budget })
+    Does s out stuck = ⊥
+
+    Does-line : (s s' : State) (line out : List ℕ) (e : Ending) → ((run : Run) → Reaches image s' run → Reaches image s (machine_after line run)) → Does s' out e → Does s (line ++ out) e
+    Does-line s s' line out done comes h = comes _ h
+    Does-line s s' line out spent comes h = comes _ h
+    Does-line s s' line out stuck comes h = h
+
+    -- the line of a print, behind the code of its terms
+    print_step : (at t : ℕ) (terms : List Term) (ns : List ℕ) (rest : List Word) → slice_get start.code at ≡ Some (Op.Print (slots_of 0 terms)) → length terms ≡ length ns
+        → (run : Run) → Reaches image (st (at + 1) (filled ns rest) t) run → Reaches image (st at (filled ns rest) t) (machine_after (line_of ns) run)
+    print_step at t terms ns rest here same run r =
+        let e = step_at image (st at (filled ns rest) t) start (Op.Print (slots_of 0 terms)) found here in
+        let values : integers (filled ns rest) (slots_of 0 terms) ≡ Some ns = filled-integers [] ns rest terms 0 refl same in
+        let q : step image (st at (filled ns rest) t) ≡ Writes (line_of ns) (st (at + 1) (filled ns rest) t) =
+        e ∙ ap (λ o. print_line o (st at (filled ns rest) t)) values ∙ ap (λ (l : List ℕ). Writes l (st (at + 1) (filled ns rest) t)) (lines ns) in
+        writes q r
+
+    last_step : (at t : ℕ) (words : List Word) → start.result ≡ 0 → slice_get start.code at ≡ Some (Op.Return 0 0) → step image (st at words t) ≡ Ends Done
+    last_step at t words none here =
+        let s = st at words t in
+        step_at image s start (Op.Return 0 0) found here
+        ∙ ap (λ (n : ℕ). if nat_eq 0 n then leave (read words 0 0) s else fault why.Size s) none
+        ∙ ap (λ (b : Bool). leave (if b then Some (take 0 (drop 0 words)) else None) s) (le_true 0 (length words) (omega arith))
+
+    abbrev pub GoodPrints : List Print → Type 0
+    GoodPrints [] = Unit {0}
+    GoodPrints (x ∷ xs) = GoodTerms x.terms × GoodPrints xs
+
+    abbrev rest_code : List Print → List Instr
+    rest_code ps = prints_code (symbols client_side) ps ++ Op.Return 0 0 ∷ []
+
+    prints_do : (ps : List Print) (at t : ℕ) (words : List Word) → FitsIn ps (length words) → start.result ≡ 0 → At start.code at (rest_code ps) → GoodPrints ps
+        → Does (st at words t) (prints_of p t ps).out (prints_of p t ps).ending
+    prints_do [] at t words fits none code good = ends (last_step at t words none code.0)
+    prints_do (x ∷ ps) at t words fits none code good =
+        by_values (values_of p t x.terms) (count_of p t x.terms)
+        (terms_do x.terms at 0 t [] words refl fits.0 (At-front (terms_code (symbols client_side) 0 x.terms) _ at parts) good.0)
+        (λ left words' same. prints_do ps (at + length x.terms + 1) left words' (subst (FitsIn ps) (sym same) fits.1) none behind.1 good.1)
+      where
+        parts : At start.code at (terms_code (symbols client_side) 0 x.terms ++ (Op.Print (slots_of 0 x.terms) ∷ rest_code ps))
+        parts = subst (At start.code at) (append_assoc (print_code (symbols client_side) x.terms) (prints_code (symbols client_side) ps) (Op.Return 0 0 ∷ []) ∙ append_assoc (terms_code (symbols client_side) 0 x.terms) (Op.Print (slots_of 0 x.terms) ∷ []) (rest_code ps)) code
+
+        behind : At start.code (at + length x.terms) (Op.Print (slots_of 0 x.terms) ∷ rest_code ps)
+        behind = subst (λ (n : ℕ). At start.code (at + n) (Op.Print (slots_of 0 x.terms) ∷ rest_code ps)) (terms_code-length x.terms 0) (At-back (terms_code (symbols client_side) 0 x.terms) _ at parts)
+
+        by_values : (e : Evaluated (List ℕ)) → CountIs e (length x.terms) → TermsDo at x.terms [] words t e
+            → ((left : ℕ) (words' : List Word) → length words' ≡ length words → Does (st (at + length x.terms + 1) words' left) (prints_of p left ps).out (prints_of p left ps).ending)
+            → Does (st at words t) (printed e (λ left. prints_of p left ps)).out (printed e (λ left. prints_of p left ps)).ending
+        by_values (gives ns left) count (rest', long, comes) more =
+            Does-line (st at words t) (st (at + length x.terms + 1) (filled ns rest') left) (line_of ns) _ _
+            (λ run r. comes _ (print_step (at + length x.terms) left x.terms ns rest' behind.0 (sym count) run r))
+            (more left (filled ns rest') (filled-length ns rest' ∙ (let e : length ns + length rest' ≡ length words = omega arith in e)))
+        by_values (stops done) count h more = absurd h
+        by_values (stops spent) count h more = h
+        by_values (stops stuck) count h more = absurd h
 
 -- enough slots for each print
 fits_most : (ps : List Print) (n : ℕ) → most_terms ps ≤ n → FitsIn ps n
@@ -311,26 +375,30 @@ At-behind (x ∷ xs) before =
     let rest : At (before ++ x ∷ xs) (length (before ++ x ∷ [])) xs = subst (λ (code : List Instr). At code (length (before ++ x ∷ [])) xs) (append_assoc before (x ∷ []) xs) (At-behind xs (before ++ x ∷ [])) in
     (instr-behind before x xs, subst (λ (n : ℕ). At (before ++ x ∷ xs) n xs) longer rest)
 
--- The image of a library that has what the client calls does what the source does, for each number of ticks.
-module _ (library : List ℕ) (fs : List Declared) (ps : List Print) (known : HasAll fs (calls_of ps)) where
+-- An image in which the client's top level has this number does what the source does, for each number of ticks.
+module _ (image : List Function) (p : Program) (symbols : Side → List ℕ → List ℕ) (Good : Calls) (known : (side : Side) (name : List ℕ) → Good side name → Known image p symbols Good side name)
+    (ps : List Print) (number : ℕ) (named : number_of image start_symbol ≡ Some number) (found : slice_get image number ≡ Some (start_function (symbols client_side) ps))
+    (good : GoodPrints image p symbols Good known number (start_function (symbols client_side) ps) found ps) where
   abbrev start : Function
-  start = start_function library ps
+  start = start_function (symbols client_side) ps
 
-  abbrev image : List Function
-  image = image_of library fs ps
+  abbrev words : List Word
+  words = replicate (most_terms ps) Empty
 
-  executes : (ticks : ℕ) (run : Run) → Reaches image (st library fs image (length fs) start (start_found library start fs) (found_of library start fs) 0 (replicate (most_terms ps) Empty) ticks) run → Executes image ticks run
-  executes ticks run r = record { number = length fs; function = start; named = start_number library start refl fs; found = start_found library start fs; reaches = r }
+  abbrev begin : ℕ → ℕ → State
+  begin at t = st image p symbols Good known number start found at words t
 
-  by_ending : (t : ℕ) (out : List ℕ) (e : Ending)
-      → Does library fs image (length fs) start (start_found library start fs) (found_of library start fs) (st library fs image (length fs) start (start_found library start fs) (found_of library start fs) 1 (replicate (most_terms ps) Empty) t) out e → EndsAs image (suc t) out e
-  by_ending t out done h = executes (suc t) _ (goes (step_at image _ start Op.Tick (start_found library start fs) refl) h)
-  by_ending t out spent h = executes (suc t) _ (goes (step_at image _ start Op.Tick (start_found library start fs) refl) h)
+  executes : (ticks : ℕ) (run : Run) → Reaches image (begin 0 ticks) run → Executes image ticks run
+  executes ticks run r = record { number = number; function = start; named = named; found = found; reaches = r }
+
+  by_ending : (t : ℕ) (out : List ℕ) (e : Ending) → Does image p symbols Good known number start found (begin 1 t) out e → EndsAs image (suc t) out e
+  by_ending t out done h = executes (suc t) _ (goes (step_at image (begin 0 (suc t)) start Op.Tick found refl) h)
+  by_ending t out spent h = executes (suc t) _ (goes (step_at image (begin 0 (suc t)) start Op.Tick found refl) h)
   by_ending t out stuck h = h
 
-  pub does : (ticks : ℕ) → DoesAs image ticks (run_of fs ps ticks)
-  does zero = executes 0 _ (ends (step_at image _ start Op.Tick (start_found library start fs) refl))
+  pub does : (ticks : ℕ) → DoesAs image ticks (run_of p ps ticks)
+  does zero = executes 0 _ (ends (step_at image (begin 0 0) start Op.Tick found refl))
   does (suc t) = by_ending t _ _
-      (prints_do library fs image (length fs) start (start_found library start fs) (found_of library start fs) ps 1 t (replicate (most_terms ps) Empty)
+      (prints_do image p symbols Good known number start found ps 1 t words
       (fits_most ps _ (omega (arith, length-replicate_empty (most_terms ps)))) refl
-      (At-behind (prints_code library ps ++ Op.Return 0 0 ∷ []) (Op.Tick ∷ [])) known)
+      (At-behind (prints_code (symbols client_side) ps ++ Op.Return 0 0 ∷ []) (Op.Tick ∷ [])) good)

@@ -1,17 +1,12 @@
 -- What linking answers.
-use Rattle.std.specs.Prelude.{◌≡◌, ◌≢◌, ◌⊎◌, ℕ, List, [], ◌∷◌, ◌++◌, IsSome, Contains, None, Some, Result, Ok, Err, slice_get}
-use Rattle.evo_base.specs.Names.{AreDistinct, position_of}
+use Rattle.std.specs.Prelude.{◌≡◌, ◌≢◌, ◌⊎◌, ℕ, List, ◌++◌, Contains, IsSome, None, Some, false, Result, Ok, Err, slice_get}
+use Rattle.evo_base.specs.Names.{position_of, AreDistinct}
 use Rattle.evo_machine.specs.declared.image.Function.{Function}
 use Rattle.evo_machine.specs.Image.{symbols_of, number_of, start_symbol}
 use Rattle.evo_build.specs.declared.object.Object.{Object}
 use Rattle.evo_build.specs.declared.linker.LinkFault.{LinkFault}
 use Rattle.evo_build.specs.declared.linker.LinkFault.TheVariants as fault
-use Rattle.evo_build.specs.Works.{linked, LinksWith}
-
--- each of these symbols is among those that are defined
-abbrev pub AreAmong : List (List ℕ) → List (List ℕ) → Type 0
-AreAmong defined [] = Unit {0}
-AreAmong defined (symbol ∷ symbols) = IsSome (position_of symbol defined) × AreAmong defined symbols
+use Rattle.evo_build.specs.Works.{linked, exports, AreExported, LinksWith}
 
 -- this symbol stands at two places
 pub record StandsTwice (symbol : List ℕ) (symbols : List (List ℕ)) : Type 0 where
@@ -28,16 +23,41 @@ TableOf functions (Err (fault.Twice symbol)) = StandsTwice symbol (symbols_of fu
 TableOf functions (Err (fault.Missing symbol)) = ⊥
 TableOf functions (Err fault.Memory) = Unit {0}
 
--- all symbols are defined, or this one is not
-abbrev pub Defines : List (List ℕ) → List (List ℕ) → Result (Unit {0}) LinkFault → Type 0
-Defines defined symbols (Ok x) = AreAmong defined symbols
-Defines defined symbols (Err (fault.Twice symbol)) = ⊥
-Defines defined symbols (Err (fault.Missing symbol)) = (position_of symbol defined ≡ None) × Contains symbols symbol
-Defines defined symbols (Err fault.Memory) = Unit {0}
+-- the second list begins with the first
+abbrev pub BeginsWith : List (List ℕ) → List (List ℕ) → Type 0
+BeginsWith front all = (rest : List (List ℕ)) × (all ≡ front ++ rest)
 
--- the image, or the symbol that is defined twice, or is needed and not defined
+-- this symbol is needed, and what should define it does not export it
+abbrev pub IsMissing : List Function → List (List ℕ) → List ℕ → Type 0
+IsMissing functions imports symbol = Contains imports symbol × (exports functions symbol ≡ false)
+
+-- all symbols are exported, or this one is not
+abbrev pub Exports : List Function → List (List ℕ) → Result (Unit {0}) LinkFault → Type 0
+Exports functions imports (Ok x) = AreExported functions imports
+Exports functions imports (Err (fault.Twice symbol)) = ⊥
+Exports functions imports (Err (fault.Missing symbol)) = IsMissing functions imports symbol
+Exports functions imports (Err fault.Memory) = Unit {0}
+
+-- Why functions of a library and of a client make no image: a symbol is defined twice, what one needs the other does not export, or
+-- there is no top level.
+abbrev pub IsLinkFault : List Function → List Function → List (List ℕ) → List (List ℕ) → LinkFault → Type 0
+IsLinkFault theirs own needed imports (fault.Twice symbol) = StandsTwice symbol (symbols_of (theirs ++ own))
+IsLinkFault theirs own needed imports (fault.Missing symbol) = IsMissing own needed symbol ⊎ (IsMissing theirs imports symbol ⊎ ((symbol ≡ start_symbol) × (number_of (theirs ++ own) symbol ≡ None)))
+IsLinkFault theirs own needed imports fault.Memory = Unit {0}
+
+-- the symbols of functions that make an image
+pub record FitTogether (theirs own : List Function) (needed imports symbols : List (List ℕ)) : Type 0 where
+  pub symbols_are : symbols ≡ symbols_of (theirs ++ own)
+  pub distinct : AreDistinct symbols
+  pub library_needs : AreExported own needed
+  pub client_needs : AreExported theirs imports
+  pub starts : IsSome (position_of start_symbol symbols)
+
+abbrev pub Checks : List Function → List Function → List (List ℕ) → List (List ℕ) → Result (List (List ℕ)) LinkFault → Type 0
+Checks theirs own needed imports (Ok symbols) = FitTogether theirs own needed imports symbols
+Checks theirs own needed imports (Err e) = IsLinkFault theirs own needed imports e
+
+-- the image, or why there is none
 abbrev pub Links : Object → Object → Result (List Function) LinkFault → Type 0
 Links library client (Ok image) = (image ≡ linked library client) × LinksWith library client
-Links library client (Err (fault.Twice symbol)) = StandsTwice symbol (symbols_of (linked library client))
-Links library client (Err (fault.Missing symbol)) = (number_of (linked library client) symbol ≡ None) × (Contains (library.imports.items ++ client.imports.items) symbol ⊎ (symbol ≡ start_symbol))
-Links library client (Err fault.Memory) = Unit {0}
+Links library client (Err e) = IsLinkFault library.functions.items client.functions.items library.imports.items client.imports.items e

@@ -1,46 +1,76 @@
 -- The objects of a library and of a client.
-use Rattle.std.specs.Prelude.{ℕ, ◌+◌, max, List, [], ◌∷◌, ◌++◌, map, length}
+use Rattle.std.specs.Prelude.{ℕ, ◌+◌, max, List, [], ◌∷◌, ◌++◌, map, filter, length, codes, not, Bool, false, Option, Some, None, if◌then◌else◌}
 use Rattle.evo_tree.specs.declared.Function.{Function as Declared}
+use Rattle.evo_tree.specs.declared.Declaration.{Declaration}
 use Rattle.evo_tree.specs.declared.Print.{Print}
 use Rattle.evo_tree.specs.declared.Term.{Term}
 use Rattle.evo_tree.specs.declared.Term.TheVariants.{Integer, Call}
+use Rattle.evo_tree.specs.Interface.{is_visible}
+use Rattle.evo_tree.specs.Calls.{calls_of}
+use Rattle.evo_tree.specs.Copies.{copied_body, is_copied, calls_of_copies}
 use Rattle.evo_machine.specs.declared.image.Function.{Function}
 use Rattle.evo_machine.specs.declared.image.Instr.{Instr}
 use Rattle.evo_machine.specs.declared.image.Instr.TheVariants as Op
 use Rattle.evo_machine.specs.Image.{start_symbol}
-use Rattle.evo_tree.specs.Calls.{calls_of}
 
 -- the symbol of a function: MODULE.NAME()
 abbrev pub symbol_of : List ℕ → List ℕ → List ℕ
 symbol_of library name = library ++ 46 ∷ (name ++ 40 ∷ 41 ∷ [])
 
--- a library's function: it takes its tick and gives its value
+-- the symbol of a client's copy of it: MODULE.NAME()#copy
+abbrev pub copy_symbol : List ℕ → List ℕ → List ℕ
+copy_symbol library name = symbol_of library name ++ codes "#copy"
+
+-- what code of the client calls: its copy of a function, where clients copy that
+abbrev pub client_symbol : List ℕ → List Declaration → List ℕ → List ℕ
+client_symbol library old name = if is_copied old name then copy_symbol library name else symbol_of library name
+
+-- a term's value goes to a slot; what is called has the symbol that is given for its name
+abbrev pub term_code : (List ℕ → List ℕ) → ℕ → Term → Instr
+term_code symbols slot (Integer n) = Op.Int slot n
+term_code symbols slot (Call name) = Op.Call (symbols name) slot 1
+
+-- a function that takes its tick and gives the value of a term
+abbrev pub function_of : List ℕ → Bool → (List ℕ → List ℕ) → Term → Function
+function_of symbol exported symbols term = record {
+  symbol = symbol;
+  exported = exported;
+  slots = 1;
+  result = 1;
+  code = Op.Tick ∷ term_code symbols 0 term ∷ Op.Return 0 1 ∷ [];
+}
+
+-- a library's function; those that clients see are exported
 abbrev pub library_function : List ℕ → Declared → Function
-library_function library f = record { symbol = symbol_of library f.name; slots = 1; result = 1; code = Op.Tick ∷ Op.Int 0 f.value ∷ Op.Return 0 1 ∷ [] }
+library_function library f = function_of (symbol_of library f.name) (is_visible f.access) (symbol_of library) f.body
 
 abbrev pub library_functions : List ℕ → List Declared → List Function
 library_functions library functions = map (library_function library) functions
 
--- a term's value goes to a slot
-abbrev pub term_code : List ℕ → ℕ → Term → Instr
-term_code library slot (Integer n) = Op.Int slot n
-term_code library slot (Call name) = Op.Call (symbol_of library name) slot 1
+-- the client's copies of functions, each with the body that the old interface has
+abbrev pub with_copy : List ℕ → List Declaration → List ℕ → Option Term → List Function → List Function
+with_copy library old name None rest = rest
+with_copy library old name (Some term) rest = function_of (copy_symbol library name) false (client_symbol library old) term ∷ rest
+
+abbrev pub copy_functions : List ℕ → List Declaration → List (List ℕ) → List Function
+copy_functions library old [] = []
+copy_functions library old (name ∷ names) = with_copy library old name (copied_body old name) (copy_functions library old names)
 
 -- the values of terms go to the slots from this one on
-abbrev pub terms_code : List ℕ → ℕ → List Term → List Instr
-terms_code library slot [] = []
-terms_code library slot (t ∷ ts) = term_code library slot t ∷ terms_code library (slot + 1) ts
+abbrev pub terms_code : (List ℕ → List ℕ) → ℕ → List Term → List Instr
+terms_code symbols slot [] = []
+terms_code symbols slot (t ∷ ts) = term_code symbols slot t ∷ terms_code symbols (slot + 1) ts
 
 abbrev pub slots_of : ℕ → List Term → List ℕ
 slots_of slot [] = []
 slots_of slot (t ∷ ts) = slot ∷ slots_of (slot + 1) ts
 
-abbrev pub print_code : List ℕ → List Term → List Instr
-print_code library terms = terms_code library 0 terms ++ Op.Print (slots_of 0 terms) ∷ []
+abbrev pub print_code : (List ℕ → List ℕ) → List Term → List Instr
+print_code symbols terms = terms_code symbols 0 terms ++ Op.Print (slots_of 0 terms) ∷ []
 
-abbrev pub prints_code : List ℕ → List Print → List Instr
-prints_code library [] = []
-prints_code library (p ∷ ps) = print_code library p.terms ++ prints_code library ps
+abbrev pub prints_code : (List ℕ → List ℕ) → List Print → List Instr
+prints_code symbols [] = []
+prints_code symbols (p ∷ ps) = print_code symbols p.terms ++ prints_code symbols ps
 
 -- the most terms of a print
 abbrev pub most_terms : List Print → ℕ
@@ -48,9 +78,19 @@ most_terms [] = 0
 most_terms (p ∷ ps) = max (length p.terms) (most_terms ps)
 
 -- the top level of a client
-abbrev pub start_function : List ℕ → List Print → Function
-start_function library prints = record { symbol = start_symbol; slots = most_terms prints; result = 0; code = Op.Tick ∷ (prints_code library prints ++ Op.Return 0 0 ∷ []) }
+abbrev pub start_function : (List ℕ → List ℕ) → List Print → Function
+start_function symbols prints = record {
+  symbol = start_symbol;
+  exported = false;
+  slots = most_terms prints;
+  result = 0;
+  code = Op.Tick ∷ (prints_code symbols prints ++ Op.Return 0 0 ∷ []);
+}
 
--- the symbols that a client needs, one for each call
-abbrev pub imports_of : List ℕ → List Print → List (List ℕ)
-imports_of library prints = map (symbol_of library) (calls_of prints)
+-- the symbols that calls need of the library: those of the functions that clients do not copy
+abbrev pub needed : List ℕ → List Declaration → List (List ℕ) → List (List ℕ)
+needed library old calls = map (symbol_of library) (filter (λ name. not (is_copied old name)) calls)
+
+-- the symbols that a client with these copies needs, one for each call of its code, and then for each of its copies'
+abbrev pub imports_of : List ℕ → List Declaration → List Print → List (List ℕ) → List (List ℕ)
+imports_of library old prints copies = needed library old (calls_of prints ++ calls_of_copies old copies)

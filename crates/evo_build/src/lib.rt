@@ -1,8 +1,10 @@
-//! Objects of the first form, and their linking: a library's functions, a client's top level, and the
-//! image that both make.
+//! Objects of the first form, and their linking: a library's functions, a client's copies and its top
+//! level, and the image that both make.
 #![tactic(auto)]
 
 mod client;
+mod code;
+mod imports;
 mod library;
 mod linker;
 mod object;

@@ -1,40 +1,45 @@
-ghost use Rattle.std.specs.Prelude.{◌≡◌, [], ◌∷◌, IfOk};
-ghost use Rattle.evo_build.specs.Objects.{library_function as the_function, library_functions};
+ghost use Rattle.std.specs.Prelude.{◌≡◌, [], IfOk};
+ghost use Rattle.evo_tree.specs.Interface.{is_visible as the_test};
+ghost use Rattle.evo_build.specs.Objects.{library_function as the_function};
 ghost use Rattle.evo_build.specs.Works.{IsLibraryObject, AreTimed};
 
+use crate::code::function_of;
 use crate::object::Object;
 use crate::symbol::symbol_of;
-use evo_base::{List, Name};
-use evo_machine::{Function, Instr};
+use evo_base::Name;
+use evo_copies::View;
+use evo_machine::Function;
+use evo_tree::Access;
 use std::alloc::{AllocError, Global};
 
-fn value_code(alloc: Global, value: u64) -> Result<List<Instr>, AllocError>
-    ensures { IfOk result (λ code. code ≡ Instr.Tick ∷ Instr.Int 0 value ∷ Instr.Return 0 1 ∷ []) }
+// Whether clients see a function.
+fn is_visible(access: Access) -> bool
+    ensures { result ≡ the_test access }
 {
-    let mut code = Vec::new(alloc);
-    code.push(Instr::Tick)?;
-    code.push(Instr::Int { to: 0, value })?;
-    code.push(Instr::Return { from: 0, words: 1 })?;
-    Ok(List::from_vec(code))
+    match access {
+        Access::Internal => false,
+        Access::Public => true,
+        Access::Inlinable => true,
+    }
 }
 
 fn library_function(
     alloc: Global,
     library: &Name,
+    nothing: &View<'_>,
     function: &evo_tree::Function,
 ) -> Result<Function, AllocError>
+    requires { nothing.now ≡ [] }
     ensures { IfOk result (λ f. f ≡ the_function library.now function.now) }
 {
-    Ok(Function {
-        symbol: symbol_of(alloc, library, &function.name)?,
-        slots: 1,
-        result: 1,
-        code: value_code(alloc, function.value)?,
-    })
+    let symbol = symbol_of(alloc, library, &function.name)?;
+    let exported = is_visible(function.access);
+    function_of(alloc, library, nothing, symbol, exported, &function.body)
 }
 
-/// The object of a library: for each of its functions, in source order, one that takes a tick and gives its
-/// value. It needs nothing of another object. Only memory can fail.
+/// The object of a library: for each of its functions, in source order, one that takes a tick and gives the
+/// value of its body. Those that clients see are exported. It needs nothing of another object, and copies
+/// nothing. Only memory can fail.
 pub fn build_library(
     alloc: Global,
     library: &Name,
@@ -43,9 +48,10 @@ pub fn build_library(
     ensures object { IfOk result (IsLibraryObject library.now functions.now) }
     ensures timed { IfOk result (λ o. AreTimed o.functions.items) }
 {
+    let nothing = View::new(alloc, &[])?;
     let mut built = Vec::new(alloc);
     for function in functions {
-        built.push(library_function(alloc, library, function)?)?;
+        built.push(library_function(alloc, library, &nothing, function)?)?;
     }
     Ok(Object {
         imports: Vec::new(alloc),

@@ -1,6 +1,7 @@
-ghost use Rattle.std.specs.Prelude.{◌≡◌};
-ghost use Rattle.evo_build.specs.Linking.{Links, TableOf, Defines};
-ghost use Rattle.evo_build.specs.Works.{AreTimed};
+ghost use Rattle.std.specs.Prelude.{◌≡◌, ◌++◌};
+ghost use Rattle.evo_machine.specs.Image.{symbols_of};
+ghost use Rattle.evo_build.specs.Linking.{Links, Checks, TableOf, BeginsWith, Exports};
+ghost use Rattle.evo_build.specs.Works.{AreTimed, exports as the_test};
 ghost use Rattle.evo_build.specs.declared.linker.LinkFault.TheVariants.{Memory};
 
 use crate::object::Object;
@@ -49,20 +50,63 @@ fn table_of(alloc: Global, functions: &[Function]) -> Result<NameTable, LinkFaul
     Ok(symbols)
 }
 
-// Whether each of these symbols is defined.
-fn check_defined(alloc: Global, symbols: &NameTable, imports: &[Symbol]) -> Result<(), LinkFault>
-    ensures { Defines symbols.now imports.now result }
+// Whether there is a function with this symbol that other objects may call. The table begins with the symbols
+// of these functions.
+fn exports(symbols: &NameTable, functions: &[Function], symbol: &[u8]) -> bool
+    requires { BeginsWith (symbols_of functions.now) symbols.now }
+    ensures { result ≡ the_test functions.now symbol.now }
+{
+    let Some(place) = symbols.position(symbol) else {
+        return false;
+    };
+    match functions.get(place) {
+        Some(function) => function.exported,
+        None => false,
+    }
+}
+
+// Whether each of these symbols is exported.
+fn check_exported(
+    alloc: Global,
+    symbols: &NameTable,
+    functions: &[Function],
+    imports: &[Symbol],
+) -> Result<(), LinkFault>
+    requires { BeginsWith (symbols_of functions.now) symbols.now }
+    ensures { Exports functions.now imports.now result }
 {
     for import in imports {
-        if symbols.position(import.as_slice()).is_none() {
+        if !exports(symbols, functions, import.as_slice()) {
             return Err(LinkFault::Missing(import.copy(alloc)?));
         }
     }
     Ok(())
 }
 
-/// The image of a library's object and a client's: the library's functions and then the client's. What either
-/// needs is sought in both.
+// The symbols of a library's functions and a client's, which stand behind them, where they make an image.
+fn check(
+    alloc: Global,
+    theirs: &[Function],
+    own: &[Function],
+    all: &[Function],
+    needed: &[Symbol],
+    imports: &[Symbol],
+) -> Result<NameTable, LinkFault>
+    requires { all.now ≡ theirs.now ++ own.now }
+    ensures { Checks theirs.now own.now needed.now imports.now result }
+{
+    let own_symbols = table_of(alloc, own)?;
+    let symbols = table_of(alloc, all)?;
+    check_exported(alloc, &own_symbols, own, needed)?;
+    check_exported(alloc, &symbols, theirs, imports)?;
+    if symbols.position(START).is_none() {
+        return Err(LinkFault::Missing(Name::from_vec(START.to_vec(alloc)?)));
+    }
+    Ok(symbols)
+}
+
+/// The image of a library's object and a client's: the library's functions and then the client's. What the
+/// code of either needs must be exported by the other.
 pub fn link(alloc: Global, library: Object, client: Object) -> Result<Image, LinkFault>
     requires library { AreTimed library.functions.items }
     requires client { AreTimed client.functions.items }
@@ -76,12 +120,9 @@ pub fn link(alloc: Global, library: Object, client: Object) -> Result<Image, Lin
         imports,
         functions: mut more,
     } = client;
+    let count = functions.len();
     functions.append(&mut more)?;
-    let symbols = table_of(alloc, &functions)?;
-    check_defined(alloc, &symbols, &needed)?;
-    check_defined(alloc, &symbols, &imports)?;
-    if symbols.position(START).is_none() {
-        return Err(LinkFault::Missing(Name::from_vec(START.to_vec(alloc)?)));
-    }
+    let (theirs, own) = functions.split_at(count);
+    let symbols = check(alloc, theirs, own, &functions, &needed, &imports)?;
     Ok(Image::new(List::from_vec(functions), symbols))
 }

@@ -2,9 +2,9 @@
 use Rattle.std.specs.Prelude.{◌≡◌, ℕ, suc, ◌+◌, ◌≤◌, Bool, true, false, cond, List, [], ◌∷◌, ◌++◌, length, Option, Some, Ok, Err, ◌⊎◌, refl}
 use Rattle.std.proofs.Common.{sym, ◌∙◌, ap, subst, inl, inr, arith, length-append, append-nil}
 use Rattle.evo_combinators.specs.declared.Fault.TheVariants.{Grammar, Deep}
-use Rattle.evo_combinators.specs.Reader.{Reader}
+use Rattle.evo_combinators.specs.Reader.{Reader, Outcome, and_then, ◌>>=◌}
 use Rattle.evo_combinators.specs.Rule.{Or, Goes}
-use Rattle.evo_combinators.specs.Guard.{choose, starts, on, starts_two, second, two}
+use Rattle.evo_combinators.specs.Guard.{choose, starts, on, ahead, starts_two, second, two, On}
 use Rattle.evo_combinators.proofs.Laws.{Like-append, Like-refl, goes_by, maybe_by}
 use Rattle.evo_combinators.specs.Laws.{Begins, Enters, Like, Right, first, of_first}
 
@@ -122,6 +122,10 @@ starts_still g us rest more e like = elim (Like-append us rest more like) [
 pub starts_same : {T : Type 0} (g : T → Bool) (t : T) (us more : List T) → starts g (t ∷ us) ≡ starts g (t ∷ more)
 starts_same g t us more = starts_is g (t ∷ us) ∙ sym (starts_is g (t ∷ more))
 
+starts_deep : {T : Type 0} (g : T → Bool) (us rest more : List T) (t : T) (b : Bool) → starts g (us ++ t ∷ rest) ≡ b → starts g (us ++ t ∷ more) ≡ b
+starts_deep g [] rest more t b is = starts_same g t more rest ∙ is
+starts_deep g (u ∷ us) rest more t b is = starts_same g u (us ++ t ∷ more) (us ++ t ∷ rest) ∙ is
+
 -- a token with which a spelling begins is not refused, and opens nothing too deep
 module _ {T A : Type 0} (Stop : Option T → Type 0) (S W : List T → A → Type 0) (p : Reader T A) (right : (n : ℕ) → Right n Stop S W p) where
   entered : (t : T) (us w us' rest : List T) (a : A) → S (t ∷ w) a → t ∷ us ≡ us' ++ rest → suc (length us) ≡ length rest →
@@ -183,16 +187,83 @@ module _ {T B : Type 0} (n : ℕ) (Stop : Option T → Type 0) (g : T → Bool) 
   on_stay [] (t ∷ rest) more fits bad is like = absurd (enters t rest (omega arith) (sym (starts_is g (t ∷ rest)) ∙ is) bad)
   on_stay (u ∷ us) rest more fits bad is like = inl (starts_same g u (us ++ more) (us ++ rest) ∙ is)
 
-  on_deep : (us rest more : List T) (t : T) (b : Bool) → starts g (us ++ t ∷ rest) ≡ b → starts g (us ++ t ∷ more) ≡ b
-  on_deep [] rest more t b is = starts_same g t more rest ∙ is
-  on_deep (u ∷ us) rest more t b is = starts_same g u (us ++ t ∷ more) (us ++ t ∷ rest) ∙ is
-
   pub right_on : Right n Stop (Or S R) (Or S' R') (on g p r)
   right_on = right_choose n Stop (starts g) S S' R R' p r right_p right_r
       (λ us rest b s stop. taken us rest b s) apart
       (λ us rest more b s is like. taken us more b s) (λ us rest more b s is like. starts_still g us rest more is like)
       on_stay (λ us rest more bad is like. starts_still g us rest more is like)
-      (λ us rest more t bad is. on_deep us rest more t true is) (λ us rest more t bad is. on_deep us rest more t false is)
+      (λ us rest more t bad is. starts_deep g us rest more t true is) (λ us rest more t bad is. starts_deep g us rest more t false is)
+
+-- ---- a look at the first token before a reader
+
+module _ {T A : Type 0} (g : T → Bool) (p : Reader T A) where
+  pub ahead_yes : (ts : List T) → starts g ts ≡ true → ◌≡◌ {A = Outcome T A} ((ahead g >>= (λ _. p)) ts) (p ts)
+  unfolding ahead
+  ahead_yes ts e = ap (λ b. and_then (cond b (Ok (tt, ts)) (Err (Grammar (length ts)))) (λ _. p)) e
+
+  ahead_no : (ts : List T) → starts g ts ≡ false → ◌≡◌ {A = Outcome T A} ((ahead g >>= (λ _. p)) ts) (Err (Grammar (length ts)))
+  unfolding ahead
+  ahead_no ts e = ap (λ b. and_then (cond b (Ok (tt, ts)) (Err (Grammar (length ts)))) (λ _. p)) e
+
+module _ {T A : Type 0} (n : ℕ) (Stop : Option T → Type 0) (g : T → Bool) (S S' : List T → A → Type 0) (p : Reader T A)
+    (right : Right n Stop S S' p) (some : (a : A) → S [] a → ⊥) where
+  abbrev Looks : Reader T A
+  Looks = ahead g >>= (λ _. p)
+
+  held : (us rest : List T) (a : A) → S us a → starts g (us ++ rest) ≡ true → On g S us a
+  held [] rest a s is = absurd (some a s)
+  held (t ∷ us) rest a s is = (t, us, refl, sym (starts_is g (t ∷ (us ++ rest))) ∙ is, s)
+
+  holds : (us more : List T) (a : A) → On g S us a → starts g (us ++ more) ≡ true
+  holds us more a (t, vs, cut, is, s) = ap (λ x. starts g (x ++ more)) cut ∙ starts_is g (t ∷ (vs ++ more)) ∙ is
+
+  goes_on : (us rest : List T) → starts g (us ++ rest) ≡ true → (us ≡ []) ⊎ Goes S' us → (us ≡ []) ⊎ Goes (On g S') us
+  goes_on [] rest is goes = inl refl
+  goes_on (u ∷ us) rest is (inl e) = absurd (cc)
+  goes_on (u ∷ us) rest is (inr (w, a, s)) = inr (w, a, (u, us ++ w, refl, sym (starts_is g (u ∷ (us ++ rest))) ∙ is, s))
+
+  opens_on : (us rest : List T) (t : T) → starts g (us ++ t ∷ rest) ≡ true → Goes S' (us ++ t ∷ []) → Goes (On g S') (us ++ t ∷ [])
+  opens_on [] rest t is (w, a, s) = (w, a, (t, w, refl, sym (starts_is g (t ∷ rest)) ∙ is, s))
+  opens_on (u ∷ us) rest t is (w, a, s) = (w, a, (u, (us ++ t ∷ []) ++ w, refl, sym (starts_is g (u ∷ (us ++ t ∷ rest))) ∙ is, s))
+
+  refuses_on : (us rest more : List T) → starts g (us ++ rest) ≡ true → p (us ++ more) ≡ Err (Grammar (length more)) → Looks (us ++ more) ≡ Err (Grammar (length more))
+  refuses_on [] rest more is bad = elim (which (starts g more)) [ inl yes ↦ ahead_yes g p more yes ∙ bad | inr no ↦ ahead_no g p more no ]
+  refuses_on (u ∷ us) rest more is bad = ahead_yes g p (u ∷ (us ++ more)) (starts_same g u (us ++ more) (us ++ rest) ∙ is) ∙ bad
+
+  pub right_ahead : Right n Stop (On g S) (On g S') Looks
+  right_ahead = record {
+    wider = λ us a (t, vs, cut, is, s). (t, vs, cut, is, right.wider us a s);
+    ended = right.ended;
+    sound = λ ts rest a fits e. elim (which (starts g ts)) [
+      | inl is ↦
+          let (us, cut, s, again) = right.sound ts rest a fits (sym (ahead_yes g p ts is) ∙ e) in
+          let on_it = held us rest a s (subst (λ x. starts g x ≡ true) cut is) in
+          (us, cut, on_it, λ more all like. ahead_yes g p (us ++ more) (holds us more a on_it) ∙ again more all like)
+      | inr is ↦ absurd (let bad = sym (ahead_no g p ts is) ∙ e in cc)
+    ];
+    complete = λ us rest a fits s stop. ahead_yes g p (us ++ rest) (holds us rest a s) ∙ right.complete us rest a fits (s.4) stop;
+    refuses = λ ts k fits e. elim (which (starts g ts)) [
+      | inl is ↦
+          let (us, rest, cut, goes, again) = right.refuses ts k fits (sym (ahead_yes g p ts is) ∙ e) in
+          let is' = subst (λ x. starts g x ≡ true) cut is in
+          (us, rest, cut, goes_on us rest is' goes, λ more all like. refuses_on us rest more is' (again more all like))
+      | inr is ↦ ([], ts, refl, inl refl, λ more all like. ahead_no g p more (starts_still g [] ts more is like))
+    ];
+    deepens = λ ts k fits e. elim (which (starts g ts)) [
+      | inl is ↦
+          let (us, t, rest, cut, goes, opens, again) = right.deepens ts k fits (sym (ahead_yes g p ts is) ∙ e) in
+          let is' = subst (λ x. starts g x ≡ true) cut is in (
+            us,
+            t,
+            rest,
+            cut,
+            goes_on us (t ∷ rest) is' goes,
+            opens_on us rest t is' opens,
+            λ more all. ahead_yes g p (us ++ t ∷ more) (starts_deep g us rest more t true is') ∙ again more all,
+          )
+      | inr is ↦ absurd (let bad = sym (ahead_no g p ts is) ∙ e in cc)
+    ];
+  }
 
 -- ---- by the first two tokens
 

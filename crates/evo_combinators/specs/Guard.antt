@@ -1,6 +1,6 @@
 -- Rules and readers that look ahead: by the first token or the first two, and a repetition with a state.
 use Rattle.std.specs.Prelude.{◌≡◌, ℕ, zero, suc, Bool, true, false, cond, List, [], ◌∷◌, ◌++◌, length}
-use Rattle.evo_combinators.specs.Reader.{Reader, ◌>>=◌, pure}
+use Rattle.evo_combinators.specs.Reader.{Reader, ◌>>=◌, pure, refuse}
 
 -- the first reader where `c` is true of the tokens, and else the second
 abbrev pub choose : {T B : Type 0} → (List T → Bool) → Reader T B → Reader T B → Reader T B
@@ -14,6 +14,10 @@ starts g (t ∷ ts) = g t
 -- by the first token, which the reader itself takes
 abbrev pub on : {T B : Type 0} → (T → Bool) → Reader T B → Reader T B → Reader T B
 on g p r = choose (starts g) p r
+
+-- refuses the first token unless it is one of these, and takes nothing
+unfoldable pub ahead : {T : Type 0} → (T → Bool) → Reader T (Unit {0})
+ahead g = on g (pure tt) refuse
 
 -- the test of the second token, where the first one was right
 abbrev pub second : {T : Type 0} → Bool → (T → Bool) → List T → Bool

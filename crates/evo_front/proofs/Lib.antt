@@ -1,4 +1,5 @@
 pub mod Known
-pub mod Distinct
+pub mod Free
+pub mod Visible
 pub mod Plain
 pub mod Within

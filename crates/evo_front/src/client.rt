@@ -1,24 +1,16 @@
-ghost use Rattle.std.specs.Prelude.{◌∷◌, [], IfOk, MatchBool};
+ghost use Rattle.std.specs.Prelude.{◌≤◌, IfOk, MatchBool, length};
 ghost use Rattle.evo_base.specs.Names.{AreDistinct};
+ghost use Rattle.evo_tree.specs.Interface.{declared_names};
 ghost use Rattle.evo_tree.specs.Calls.{calls_of, calls_of_terms};
 ghost use Rattle.evo_tree.specs.Accepted.{AreKnown, IsAcceptedClient};
-ghost use Rattle.evo_front.specs.Texts.{AcceptsClient};
+ghost use Rattle.evo_front.specs.Texts.{file_limit, AcceptsClient};
 
-use crate::limits::FILE_LIMIT;
-use crate::names::table_of;
+use crate::calls::knows;
 use evo_base::NameTable;
+use evo_iface::declared_table;
 use evo_parse::read_client;
 use evo_tree::{Client, Interface, Print, Term};
 use std::alloc::{AllocError, Global};
-
-fn knows(functions: &NameTable, term: &Term) -> bool
-    ensures { MatchBool result (AreKnown functions.now (calls_of_terms (term.now ∷ []))) (AreKnown functions.now (calls_of_terms (term.now ∷ [])) → ⊥) }
-{
-    match term {
-        Term::Integer(_) => true,
-        Term::Call(name) => functions.position(name.as_slice()).is_some(),
-    }
-}
 
 fn knows_terms(functions: &NameTable, terms: &[Term]) -> bool
     ensures { MatchBool result (AreKnown functions.now (calls_of_terms terms.now)) (AreKnown functions.now (calls_of_terms terms.now) → ⊥) }
@@ -43,30 +35,27 @@ fn knows_all(functions: &NameTable, prints: &[Print]) -> bool
 }
 
 fn is_accepted(alloc: Global, interface: &Interface, client: &Client) -> Result<bool, AllocError>
-    requires { AreDistinct interface.now.functions }
+    requires { AreDistinct (declared_names interface.now.functions) }
     ensures { IfOk result (λ yes. MatchBool yes (IsAcceptedClient interface.now client.now) (IsAcceptedClient interface.now client.now → ⊥)) }
 {
     if client.import.as_slice() != interface.name.as_slice() {
         return Ok(false);
     }
-    let functions = table_of(alloc, interface.functions.as_slice())?;
+    let functions = declared_table(alloc, interface.functions.as_slice())?;
     Ok(knows_all(&functions, client.prints.as_slice()))
 }
 
-/// The client of an interface that a text is, or `None` where it is not accepted: it has too many bytes, is
-/// no source of a client, imports another module, or calls what the interface does not have. Only memory can
-/// fail.
+/// The client of an interface that a text is, or `None` where it is not accepted: it is no source of
+/// a client, imports another module, or calls what the interface does not have. Only memory can fail.
 pub fn accept_client(
     alloc: Global,
     interface: &Interface,
     text: &[u8],
 ) -> Result<Option<Client>, AllocError>
-    requires { AreDistinct interface.now.functions }
+    requires distinct { AreDistinct (declared_names interface.now.functions) }
+    requires short { length text.now ≤ file_limit }
     ensures { IfOk result (AcceptsClient interface.now text.now) }
 {
-    if text.len() > FILE_LIMIT {
-        return Ok(None);
-    }
     let Some(client) = read_client(alloc, text)? else {
         return Ok(None);
     };

@@ -1,9 +1,10 @@
-ghost use Rattle.std.specs.Prelude.{IfOk};
+ghost use Rattle.std.specs.Prelude.{◌≡◌, ◌≤◌, IfOk, length};
 ghost use Rattle.evo_iface.specs.Text.{IsPlain, IsReadable};
 ghost use Rattle.evo_tree.specs.Interface.{interface_of as the_interface};
-ghost use Rattle.evo_front.specs.Texts.{AcceptsLibrary, IsInterfaceWithin};
+ghost use Rattle.evo_front.specs.Texts.{file_limit, AcceptsLibrary, HasAcceptedInterface, IsInterfaceWithin};
+ghost use Rattle.evo_front.specs.declared.library.LibraryFault.TheVariants.{Memory};
 
-use crate::limits::{FILE_LIMIT, INTERFACE_LIMIT};
+use crate::limits::INTERFACE_LIMIT;
 use crate::names::are_accepted;
 use evo_base::{List, Name};
 use evo_iface::{interface_of, read_interface};
@@ -16,6 +17,25 @@ use std::alloc::{AllocError, Global};
 pub struct AcceptedLibrary {
     pub functions: List<Function>,
     pub interface: Interface,
+}
+
+/// Why a text gives no library.
+#[derive(Clone, Copy, Debug, PartialEq, Eq)]
+pub enum LibraryFault {
+    /// It is no source of a library, or breaks a rule of its names.
+    NotAccepted,
+    /// It is accepted as a library, and the text of its interface has too many bytes.
+    InterfaceTooLong,
+    /// No memory was left.
+    Memory,
+}
+
+impl From<AllocError> for LibraryFault {
+    ghost from_gives = { λ _ e. e ≡ Memory };
+
+    fn from(_: AllocError) -> Self {
+        LibraryFault::Memory
+    }
 }
 
 // The interface of a library: its text is written and read again.
@@ -34,31 +54,28 @@ fn interface_text_of(
     read_interface(alloc, &text)
 }
 
-/// The library of this name that a text is, or `None` where it is not accepted: it has too many bytes, is
-/// no source of a library, breaks a rule of its names, or its interface has too many bytes. The name has no
-/// space in it. Only memory can fail.
+/// The library of this name that a text is, with its interface. The name has no space in it.
 pub fn accept_library(
     alloc: Global,
     library: &Name,
     text: &[u8],
-) -> Result<Option<AcceptedLibrary>, AllocError>
-    requires { IsPlain 32 library.now }
-    ensures { IfOk result (AcceptsLibrary library.now text.now) }
+) -> Result<AcceptedLibrary, LibraryFault>
+    requires plain { IsPlain 32 library.now }
+    requires short { length text.now ≤ file_limit }
+    ensures accepts { AcceptsLibrary library.now text.now result }
+    ensures interface { HasAcceptedInterface result }
 {
-    if text.len() > FILE_LIMIT {
-        return Ok(None);
-    }
     let Some(functions) = read_library(alloc, text)? else {
-        return Ok(None);
+        return Err(LibraryFault::NotAccepted);
     };
     if !are_accepted(alloc, library, functions.as_slice())? {
-        return Ok(None);
+        return Err(LibraryFault::NotAccepted);
     }
     let Some(interface) = interface_text_of(alloc, library, functions.as_slice())? else {
-        return Ok(None);
+        return Err(LibraryFault::InterfaceTooLong);
     };
-    Ok(Some(AcceptedLibrary {
+    Ok(AcceptedLibrary {
         functions,
         interface,
-    }))
+    })
 }

@@ -1,35 +1,13 @@
 -- The lines of functions.
-use Rattle.std.proofs.Common.{◌≡◌, ◌≢◌, ℕ, List, [], ◌∷◌, ◌++◌, length, refl, ◌∙◌, ap, append_assoc, arith}
+use Rattle.std.proofs.Common.{◌≡◌, ◌≢◌, ℕ, List, [], ◌∷◌, ◌++◌, length, slice_index, codes, Option, Some, None, refl, sym, ◌∙◌, ap, append_assoc, arith}
 use Rattle.std.proofs.lemmas.List.{append-nil}
-use Rattle.evo_iface.specs.Text.{ArePlain, IsPlain, function_lines, before_name, behind_name}
-use Rattle.evo_iface.specs.Fronts.{with_line, IsFrontLine}
-
-abbrev Names : Type 0
-Names = List (List ℕ)
-
--- a line behind a text, and then lines
-behind : (text a n b rest : List ℕ) → text ++ (a ++ (n ++ (b ++ rest))) ≡ (text ++ (a ++ (n ++ (b ++ [])))) ++ rest
-behind text a n b rest = simp (append_assoc, append-nil)
-
-pub line_behind : (text n rest : List ℕ) → text ++ with_line n rest ≡ (text ++ with_line n []) ++ rest
-line_behind text n rest = behind text before_name n behind_name rest
-
--- a text that is not empty and has no line at its front is no lines
-pub not_lines : (text : List ℕ) (names : Names) → text ≢ [] → ((m more : List ℕ) → IsPlain 40 m → text ≡ with_line m more → ⊥) → ArePlain names → text ≡ function_lines names → ⊥
-not_lines text [] some none plain e = some e
-not_lines text (n ∷ ns) some none plain e = none n (function_lines ns) plain.0 e
-
--- the lines of a text that is not empty begin with its front line
-pub first_line : (text name rest : List ℕ) (names : Names) → text ≢ [] → IsFrontLine text name rest → ArePlain names → text ≡ function_lines names → (more : Names) × (names ≡ name ∷ more) × ArePlain more × (rest ≡ function_lines more)
-first_line text name rest [] some line plain e = absurd (some e)
-first_line text name rest (n ∷ ns) some line plain e =
-    let is = line.only n (function_lines ns) plain.0 e in
-    (ns, ap (λ (m : List ℕ). m ∷ ns) is.0, plain.1, is.1)
-
--- an empty text has no lines
-pub no_lines : (names : Names) → [] ≡ function_lines names → names ≡ []
-no_lines [] e = refl
-no_lines (n ∷ ns) e = absurd cc
+use Rattle.evo_tree.specs.declared.Access.TheVariants as is
+use Rattle.evo_tree.specs.declared.Access.{Access}
+use Rattle.evo_tree.specs.declared.Term.{Term}
+use Rattle.evo_tree.specs.declared.Declaration.{Declaration}
+use Rattle.evo_tree.specs.Interface.{declarations_of}
+use Rattle.evo_iface.specs.Text.{IsPlain, IsPlainTerm, IsPlainBody, ArePlain, function_text, functions_text}
+use Rattle.evo_iface.specs.Fronts.{IsBetween, IsInlinable, IsFront}
 
 pub not_empty : (xs : List ℕ) → length xs ≢ 0 → xs ≢ []
 not_empty xs some e = some (ap length e)
@@ -38,10 +16,106 @@ pub is_empty : (xs : List ℕ) → length xs ≡ 0 → xs ≡ []
 is_empty [] e = refl
 is_empty (x ∷ xs) e = absurd (omega arith)
 
--- three pieces behind a text
-pub three : (text a b c one two all : List ℕ) → one ≡ text ++ a → two ≡ one ++ b → all ≡ two ++ c → all ≡ text ++ (a ++ (b ++ c))
-three text a b c one two all p q r = r ∙ ap (λ (l : List ℕ). l ++ c) (q ∙ ap (λ (l : List ℕ). l ++ b) p) ∙ append_assoc (text ++ a) b c ∙ append_assoc text a (b ++ c)
+-- pieces and the rest
+pub three : (a n b rest : List ℕ) → (a ++ (n ++ b)) ++ rest ≡ a ++ (n ++ (b ++ rest))
+three a n b rest = simp append_assoc
 
--- a front of three pieces, and the rest
-pub four : (a b c d front all : List ℕ) → front ≡ a ++ (b ++ c) → all ≡ front ++ d → all ≡ a ++ (b ++ (c ++ d))
-four a b c d front all p q = q ∙ ap (λ (l : List ℕ). l ++ d) p ∙ append_assoc a (b ++ c) d ∙ ap (λ (l : List ℕ). a ++ l) (append_assoc b c d)
+pub five : (a n b t c rest : List ℕ) → (a ++ (n ++ (b ++ (t ++ c)))) ++ rest ≡ a ++ (n ++ (b ++ (t ++ (c ++ rest))))
+five a n b t c rest = simp append_assoc
+
+-- A name between two texts, a term, and a third text.
+module _ (text a b c name rest : List ℕ) where
+  abbrev all : List ℕ → List ℕ → List ℕ → List ℕ
+  all m t more = (a ++ (m ++ (b ++ (t ++ c)))) ++ more
+
+  pub no_name : ((m more : List ℕ) → IsPlain (slice_index b 0) m → text ≡ a ++ (m ++ (b ++ more)) → ⊥) → (m t more : List ℕ) → IsPlain (slice_index b 0) m → text ≡ all m t more → ⊥
+  no_name none m t more plain e = none m (t ++ (c ++ more)) plain (e ∙ five a m b t c more)
+
+  module _ (named : IsBetween a b text name rest) where
+    pub name_is : (m t more : List ℕ) → IsPlain (slice_index b 0) m → text ≡ all m t more → (m ≡ name) × (rest ≡ t ++ (c ++ more))
+    name_is m t more plain e = let is = named.only m (t ++ (c ++ more)) plain (e ∙ five a m b t c more) in (is.0, sym is.1)
+
+    pub no_line : ((m more : List ℕ) → IsPlain (slice_index c 0) m → rest ≡ m ++ (c ++ more) → ⊥) → (m t more : List ℕ) → IsPlain (slice_index b 0) m → IsPlain (slice_index c 0) t → text ≡ all m t more → ⊥
+    no_line none m t more plain line e = none t more line (name_is m t more plain e).1
+
+    module _ (line behind : List ℕ) (lined : IsBetween [] c rest line behind) where
+      pub line_is : (m t more : List ℕ) → IsPlain (slice_index b 0) m → IsPlain (slice_index c 0) t → text ≡ all m t more → (m ≡ name) × (t ≡ line) × (more ≡ behind)
+      line_is m t more plain term e =
+          let is = name_is m t more plain e in
+          let then = lined.only t more term is.1 in
+          (is.0, then.0, then.1)
+
+      pub all_is : (t : List ℕ) → line ≡ t → text ≡ all name t behind
+      all_is t e = named.whole ∙ ap (λ (l : List ℕ). a ++ (name ++ (b ++ l))) (lined.whole ∙ ap (λ (l : List ℕ). l ++ (c ++ behind)) e) ∙ sym (five a name b t c behind)
+
+-- the lines of an inlinable function begin with another byte than those of others
+apart : (xs ys : List ℕ) → 64 ∷ xs ≡ 112 ∷ ys → ⊥
+apart xs ys e = absurd cc
+
+-- The function at the front of a text.
+module _ (text : List ℕ) where
+  -- one with a body to copy
+  pub front_inlinable : (name : List ℕ) (body : Term) (rest : List ℕ) → IsInlinable text name body rest → IsFront text name (Some body) rest
+  front_inlinable name body rest found = record { whole = found.whole; only = only }
+    where
+      only : (m : List ℕ) (b : Option Term) (more : List ℕ) → IsPlain 40 m → IsPlainBody b → text ≡ function_text m b ++ more → (m ≡ name) × (b ≡ Some body) × (more ≡ rest)
+      only m None more plain term e = absurd (apart _ _ (sym found.whole ∙ e))
+      only m (Some b) more plain term e = let is = found.only m b more plain term e in (is.0, ap Some is.1, is.2)
+
+  module _ (none : (m : List ℕ) (b : Term) (more : List ℕ) → IsPlain 40 m → IsPlainTerm b → text ≡ function_text m (Some b) ++ more → ⊥) where
+    -- one without
+    pub front_public : (name rest : List ℕ) → IsBetween (codes "public func ") (codes "() -> Swift.Int\n") text name rest → IsFront text name None rest
+    front_public name rest found = record { whole = found.whole ∙ sym (three (codes "public func ") name (codes "() -> Swift.Int\n") rest); only = only }
+      where
+        only : (m : List ℕ) (b : Option Term) (more : List ℕ) → IsPlain 40 m → IsPlainBody b → text ≡ function_text m b ++ more → (m ≡ name) × (b ≡ None) × (more ≡ rest)
+        only m None more plain term e = let is = found.only m more plain (e ∙ three (codes "public func ") m (codes "() -> Swift.Int\n") more) in (is.0, refl, is.1)
+        only m (Some b) more plain term e = absurd (none m b more plain term e)
+
+    -- none of either
+    pub no_front : ((m more : List ℕ) → IsPlain 40 m → text ≡ codes "public func " ++ (m ++ (codes "() -> Swift.Int\n" ++ more)) → ⊥) → (m : List ℕ) (b : Option Term) (more : List ℕ) → IsPlain 40 m → IsPlainBody b → text ≡ function_text m b ++ more → ⊥
+    no_front other m None more plain term e = other m more plain (e ∙ three (codes "public func ") m (codes "() -> Swift.Int\n") more)
+    no_front other m (Some b) more plain term e = none m b more plain term e
+
+-- no lines of a function are empty
+some_text : (name : List ℕ) (body : Option Term) (rest : List ℕ) → [] ≡ function_text name body ++ rest → ⊥
+some_text name None rest e = absurd cc
+some_text name (Some body) rest e = absurd cc
+
+made : (name : List ℕ) (body : Option Term) (other : List ℕ) (other_body : Option Term) → name ≡ other → body ≡ other_body → ◌≡◌ {A = Declaration} (record { name = name; body = body }) (record { name = other; body = other_body })
+made name body other other_body p q = cc
+
+-- a text that is not empty and has no function at its front is no functions
+pub no_functions : (text : List ℕ) (ds : List Declaration) → text ≢ [] → ((m : List ℕ) (b : Option Term) (more : List ℕ) → IsPlain 40 m → IsPlainBody b → text ≡ function_text m b ++ more → ⊥) → ArePlain ds → text ≡ functions_text ds → ⊥
+no_functions text [] some none plain e = some e
+no_functions text (d ∷ ds) some none plain e = none d.name d.body (functions_text ds) plain.0 plain.1 e
+
+-- the functions of a text that is not empty begin with that at its front
+pub first_function : (text : List ℕ) (found : Declaration) (rest : List ℕ) (ds : List Declaration) → text ≢ [] → IsFront text found.name found.body rest → ArePlain ds → text ≡ functions_text ds → (more : List Declaration) × (ds ≡ found ∷ more) × ArePlain more × (rest ≡ functions_text more)
+first_function text found rest [] some front plain e = absurd (some e)
+first_function text found rest (d ∷ ds) some front plain e =
+    let is = front.only d.name d.body (functions_text ds) plain.0 plain.1 e in
+    let same : d ≡ found = made d.name d.body found.name found.body is.0 is.1 in
+    (ds, ap (λ (m : Declaration). m ∷ ds) same, plain.2, sym is.2)
+
+-- an empty text has no functions
+pub empty_functions : (ds : List Declaration) → [] ≡ functions_text ds → ds ≡ []
+empty_functions [] e = refl
+empty_functions (d ∷ ds) e = absurd (some_text d.name d.body (functions_text ds) e)
+
+-- the lines of a function that clients see
+module _ (name : List ℕ) (body : Term) where
+  pub public_text : (access : Access) → access ≡ is.Public → functions_text (declarations_of (record { access = access; name = name; body = body } ∷ [])) ≡ function_text name None
+  public_text is.Internal e = absurd cc
+  public_text is.Public e = append-nil (function_text name None)
+  public_text is.Inlinable e = absurd cc
+
+  pub inlinable_text : (access : Access) → access ≡ is.Inlinable → functions_text (declarations_of (record { access = access; name = name; body = body } ∷ [])) ≡ function_text name (Some body)
+  inlinable_text is.Internal e = absurd cc
+  inlinable_text is.Public e = absurd cc
+  inlinable_text is.Inlinable e = append-nil (function_text name (Some body))
+
+-- a name between two texts, a term and a third text, behind what was written
+pub written : (text a n b t c one two end : List ℕ) → one ≡ text ++ (a ++ (n ++ b)) → two ≡ one ++ t → end ≡ two ++ c → end ≡ text ++ (a ++ (n ++ (b ++ (t ++ c))))
+written text a n b t c one two end p q r =
+    let joined : ((text ++ (a ++ (n ++ b))) ++ t) ++ c ≡ text ++ (a ++ (n ++ (b ++ (t ++ c)))) = simp append_assoc in
+    r ∙ ap (λ (l : List ℕ). l ++ c) (q ∙ ap (λ (l : List ℕ). l ++ t) p) ∙ joined

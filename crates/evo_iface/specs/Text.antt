@@ -1,29 +1,32 @@
 -- The text of an interface.
-use Rattle.std.specs.Prelude.{◌≡◌, ◌≢◌, ℕ, List, [], ◌∷◌, ◌++◌, codes, Option, Some, None}
+use Rattle.std.specs.Prelude.{◌≡◌, ◌≢◌, ◌<◌, ◌^◌, ℕ, List, [], ◌∷◌, ◌++◌, codes, Option, Some, None}
 use Rattle.std.specs.Str.{IsUtf8}
+use Rattle.std.specs.Fmt.{decimal}
+use Rattle.evo_tree.specs.declared.Term.{Term}
+use Rattle.evo_tree.specs.declared.Term.TheVariants.{Integer, Call}
+use Rattle.evo_tree.specs.declared.Declaration.{Declaration}
 use Rattle.evo_tree.specs.declared.Interface.{Interface}
 
--- the two first lines and the import, for a module of release 1.0
-abbrev pub format_line : List ℕ
-format_line = codes "// swift-interface-format-version: 1.0\n// swevo-module: "
+abbrev pub term_text : Term → List ℕ
+term_text (Integer n) = decimal n
+term_text (Call name) = name ++ codes "()"
 
-abbrev pub import_line : List ℕ
-import_line = codes " 1.0\nimport Swift\n"
+-- the lines of a function: one, or three where clients may copy the body
+abbrev pub function_text : List ℕ → Option Term → List ℕ
+function_text name None = codes "public func " ++ (name ++ codes "() -> Swift.Int\n")
+function_text name (Some body) = codes "@inlinable public func " ++ (name ++ (codes "() -> Swift.Int {\n  return " ++ (term_text body ++ codes "\n}\n")))
 
--- what stands before and behind a function's name on its line
-abbrev pub before_name : List ℕ
-before_name = codes "public func "
+abbrev pub functions_text : List Declaration → List ℕ
+functions_text [] = []
+functions_text (d ∷ ds) = function_text d.name d.body ++ functions_text ds
 
-abbrev pub behind_name : List ℕ
-behind_name = codes "() -> Swift.Int\n"
-
-abbrev pub function_lines : List (List ℕ) → List ℕ
-function_lines [] = []
-function_lines (name ∷ names) = before_name ++ (name ++ (behind_name ++ function_lines names))
+-- the two first lines, which have the format's version and the module's name with its release, and the import
+abbrev pub head_text : List ℕ → List ℕ
+head_text library = codes "// swift-interface-format-version: 1.0\n// swevo-module: " ++ (library ++ codes " 1.0\nimport Swift\n")
 
 -- the canonical text
 abbrev pub interface_text : Interface → List ℕ
-interface_text i = format_line ++ (i.name ++ (import_line ++ function_lines i.functions))
+interface_text i = head_text i.name ++ functions_text i.functions
 
 -- a text without this byte
 abbrev pub Lacks : ℕ → List ℕ → Type 0
@@ -35,11 +38,21 @@ pub record IsPlain (byte : ℕ) (name : List ℕ) : Type 0 where
   pub utf8 : IsUtf8 name
   pub lacks : Lacks byte name
 
-abbrev pub ArePlain : List (List ℕ) → Type 0
-ArePlain [] = Unit {0}
-ArePlain (n ∷ ns) = IsPlain 40 n × ArePlain ns
+-- a term that can be found again: an integer that has 64 bits, or a call of a name without a line feed
+abbrev pub IsPlainTerm : Term → Type 0
+IsPlainTerm (Integer n) = n < 2 ^ 64
+IsPlainTerm (Call name) = IsPlain 10 name
 
--- an interface that can be read again: the module's name has no space, and no function's name has a bracket
+abbrev pub IsPlainBody : Option Term → Type 0
+IsPlainBody None = Unit {0}
+IsPlainBody (Some body) = IsPlainTerm body
+
+-- functions that can be found again: no name has a bracket
+abbrev pub ArePlain : List Declaration → Type 0
+ArePlain [] = Unit {0}
+ArePlain (d ∷ ds) = IsPlain 40 d.name × IsPlainBody d.body × ArePlain ds
+
+-- an interface that can be read again: the module's name has no space, and its functions can be found again
 pub record IsReadable (i : Interface) : Type 0 where
   pub name : IsPlain 32 i.name
   pub functions : ArePlain i.functions

@@ -1,11 +1,15 @@
-ghost use Rattle.std.specs.Prelude.{◌≡◌, ◌≤◌, List, ℕ, IfOk, length};
+ghost use Rattle.std.specs.Prelude.{◌≡◌, ◌≤◌, ◌<◌, IfOk, length};
 ghost use Rattle.std.specs.Option.{option_map};
 ghost use Rattle.evo_iface.specs.Text.{Reads};
-ghost use Rattle.evo_iface.specs.Fronts.{length_before, FrontName, FrontLine, Lines};
+ghost use Rattle.evo_iface.specs.Fronts.{length_before, Between, Inlinable, Front, Functions};
 
-use crate::writing::{BEFORE_NAME, BEHIND_NAME, FORMAT_LINE, IMPORT_LINE};
+use crate::term::{name_of, term_of};
+use crate::texts::{
+    BEFORE_INLINABLE, BEFORE_MODULE, BEFORE_NAME, BEFORE_TERM, BEHIND_MODULE, BEHIND_NAME,
+    BEHIND_TERM,
+};
 use evo_base::{List, Name};
-use evo_tree::Interface;
+use evo_tree::{Declaration, Interface, Term};
 use std::alloc::{AllocError, Global};
 
 // How many bytes stand before the first such byte.
@@ -21,65 +25,86 @@ fn length_before_byte(text: &[u8], byte: u8) -> usize
     text.len()
 }
 
-// The name in front of the first such byte, and the rest from that byte on.
-fn name_before<'t>(
+// The name between two texts at the front, and the rest. The name goes up to the first byte of the second text.
+fn name_between<'t>(
     alloc: Global,
     text: &'t [u8],
-    byte: u8,
+    before: &[u8],
+    behind: &[u8],
 ) -> Result<Option<(Name, &'t [u8])>, AllocError>
-    ensures { IfOk result (FrontName byte text.now) }
+    requires { 0 < length behind.now }
+    ensures { IfOk result (Between before.now behind.now text.now) }
 {
-    let (front, rest) = text.split_at(length_before_byte(text, byte));
-    let Ok(_) = str::from_utf8(front) else {
+    let Some(text) = text.strip_prefix(before) else {
         return Ok(None);
     };
-    let name = Name::from_vec(Vec::from_slice(alloc, front)?);
-    Ok(Some((name, rest)))
-}
-
-// The function of the first line, and the text behind that line.
-fn read_function<'t>(alloc: Global, text: &'t [u8]) -> Result<Option<(Name, &'t [u8])>, AllocError>
-    ensures { IfOk result (FrontLine text.now) }
-{
-    let Some(rest) = text.strip_prefix(BEFORE_NAME) else {
+    let (front, rest) = text.split_at(length_before_byte(text, behind[0]));
+    let Some(rest) = rest.strip_prefix(behind) else {
         return Ok(None);
     };
-    let Some((name, rest)) = name_before(alloc, rest, b'(')? else {
-        return Ok(None);
-    };
-    let Some(rest) = rest.strip_prefix(BEHIND_NAME) else {
+    let Some(name) = name_of(alloc, front)? else {
         return Ok(None);
     };
     Ok(Some((name, rest)))
 }
 
-// The functions of all lines.
-fn read_functions(alloc: Global, text: &[u8]) -> Result<Option<Vec<Name>>, AllocError>
-    ensures { IfOk result (λ r. Lines text.now (option_map (λ v. v.items) r)) }
+// The inlinable function at the front with its body, and the rest.
+fn read_inlinable<'t>(
+    alloc: Global,
+    text: &'t [u8],
+) -> Result<Option<(Name, Term, &'t [u8])>, AllocError>
+    ensures { IfOk result (Inlinable text.now) }
 {
-    let mut names = Vec::new(alloc);
+    let Some((name, rest)) = name_between(alloc, text, BEFORE_INLINABLE, BEFORE_TERM)? else {
+        return Ok(None);
+    };
+    let Some((term, rest)) = name_between(alloc, rest, b"", BEHIND_TERM)? else {
+        return Ok(None);
+    };
+    let Some(body) = term_of(alloc, term.as_slice())? else {
+        return Ok(None);
+    };
+    Ok(Some((name, body, rest)))
+}
+
+// The function at the front, and the rest.
+fn read_function<'t>(
+    alloc: Global,
+    text: &'t [u8],
+) -> Result<Option<(Declaration, &'t [u8])>, AllocError>
+    ensures { IfOk result (Front text.now) }
+{
+    if let Some((name, body, rest)) = read_inlinable(alloc, text)? {
+        let body = Some(body);
+        return Ok(Some((Declaration { name, body }, rest)));
+    }
+    let Some((name, rest)) = name_between(alloc, text, BEFORE_NAME, BEHIND_NAME)? else {
+        return Ok(None);
+    };
+    Ok(Some((Declaration { name, body: None }, rest)))
+}
+
+// The functions of a whole text.
+fn read_functions(alloc: Global, text: &[u8]) -> Result<Option<Vec<Declaration>>, AllocError>
+    ensures { IfOk result (λ r. Functions text.now (option_map (λ v. v.items) r)) }
+{
+    let mut functions = Vec::new(alloc);
     let mut rest = text;
     while !rest.is_empty() {
-        let Some((name, more)) = read_function(alloc, rest)? else {
+        let Some((function, more)) = read_function(alloc, rest)? else {
             return Ok(None);
         };
-        names.push(name)?;
+        functions.push(function)?;
         rest = more;
     }
-    Ok(Some(names))
+    Ok(Some(functions))
 }
 
 /// The interface whose canonical text this is, or `None` where it is no such text. Only memory can fail.
 pub fn read_interface(alloc: Global, text: &[u8]) -> Result<Option<Interface>, AllocError>
     ensures { IfOk result (Reads text.now) }
 {
-    let Some(rest) = text.strip_prefix(FORMAT_LINE) else {
-        return Ok(None);
-    };
-    let Some((name, rest)) = name_before(alloc, rest, b' ')? else {
-        return Ok(None);
-    };
-    let Some(rest) = rest.strip_prefix(IMPORT_LINE) else {
+    let Some((name, rest)) = name_between(alloc, text, BEFORE_MODULE, BEHIND_MODULE)? else {
         return Ok(None);
     };
     let Some(functions) = read_functions(alloc, rest)? else {

@@ -42,6 +42,8 @@ pub enum Instr {
 pub struct Function {
     /// The name by which it is called, its own in an image.
     pub symbol: Symbol,
+    /// Whether the code of another object may call it. A run does not ask.
+    pub exported: bool,
     /// The count of words of its frame.
     pub slots: u64,
     /// The count of words that it returns.

@@ -1,5 +1,5 @@
 -- What holds of what is spelled.
-use Rattle.std.proofs.Common.{ℕ, ◌∷◌, ◌<◌, ◌^◌, [], List, Option, Some, None, sym, subst, inl, inr}
+use Rattle.std.proofs.Common.{ℕ, ◌∷◌, [], List, Option, Some, None, sym, subst, inl, inr}
 use Rattle.std.specs.Prelude.{All, Result, Ok, Err, IfOk, IfSome}
 use Rattle.std.specs.declared.alloc.AllocError.{AllocError}
 use Rattle.std.proofs.lemmas.List.Elements.{All-nil, All-cons}
@@ -10,20 +10,21 @@ use Rattle.evo_tree.specs.declared.Print.{Print}
 use Rattle.evo_tree.specs.declared.Client.{Client}
 use Rattle.evo_combinators.specs.Rule.{IsOnly, Many, Repeat}
 use Rattle.evo_parse.specs.Pieces.{Piece, pieces, mark}
-use Rattle.evo_parse.specs.Grammar.{Rule, IsBody, IsRestOfFunction, IsFunction, IsFurther, IsLibrary, IsTerm, IsTerms, IsPrint, IsClient, SpellsLibrary, SpellsClient}
+use Rattle.evo_parse.specs.Grammar.{Rule, IsBody, IsFunction, IsFurther, IsLibrary, IsTerm, IsTerms, IsPrint, IsClient, SpellsLibrary, SpellsClient}
 use Rattle.evo_parse.specs.Facts.{FunctionFacts, LibraryFacts, TermFacts, PrintFacts, ClientFacts}
-use Rattle.evo_parse.proofs.Tests.{name_fact, integer_fact, integer_here_fact}
+use Rattle.evo_parse.proofs.Tests.{name_fact, integer_fact}
 
-body_fact : (us : List Piece) (v : ℕ) → IsBody us v → v < 2 ^ 63
-body_fact us v (t, a, vs, cut, takes, (t', a', vs', cut', takes', (p, value, ws, cut'', is, (q, b, xs, cut''', shut, (none, same))))) =
-    subst (λ (x : ℕ). x < 2 ^ 63) (sym same) (integer_here_fact p value is)
+term_fact : (us : List Piece) (t : Term) → IsTerm us t → TermFacts t
+term_fact us t (inl (p, v, vs, cut, takes, (none, same))) = subst TermFacts (sym same) (integer_fact p v takes)
+term_fact us t (inr (p, n, vs, cut, takes, (here, ws, cut', is, (q, a, xs, opens, takes', (r, b, ys, shuts, takes'', (none, same)))))) = subst TermFacts (sym same) (name_fact p n takes)
 
-rest_fact : (us : List Piece) (f : Function) → IsRestOfFunction us f → FunctionFacts f
-rest_fact us f (t, a, vs, cut, takes, (p, n, ws, cut', named, (x, xs, ys, cut'', signed, (v, zs, rs, cut''', body, (none, same))))) =
-    subst FunctionFacts (sym same) (record { name = name_fact p n named; value = body_fact zs v body })
+body_fact : (us : List Piece) (t : Term) → IsBody us t → TermFacts t
+body_fact us t (p, a, vs, cut, takes, (p', a', vs', cut', takes', (b, xs, ys, cut'', (here, zs, at, is, s), (q, c, ws, shuts, takes'', (none, same))))) =
+    subst TermFacts (sym same) (term_fact xs b s)
 
 function_fact : (us : List Piece) (f : Function) → IsFunction us f → FunctionFacts f
-function_fact us f (t, a, vs, cut, takes, s) = rest_fact vs f s
+function_fact us f (a, vs, ws, cut, access, (t, u, xs, cut', takes, (p, n, ys, cut'', named, (x, rs, zs, at, signed, (b, bs, es, at', body, (none, same)))))) =
+    subst FunctionFacts (sym same) (record { name = name_fact p n named; body = body_fact bs b body })
 
 -- a fact of each item is one of each further item
 module _ {A : Type 0} (Item : Rule A) (P : A → Type 0) (fact : (us : List Piece) (a : A) → Item us a → P a) where
@@ -40,10 +41,6 @@ library_fact us fs (inl (f, vs, ws, cut, one, (gs, xs, ys, cut', more, (none, sa
     subst LibraryFacts (sym same) (All-cons FunctionFacts f gs (function_fact vs f one) (all_further IsFunction FunctionFacts function_fact xs gs more))
 library_fact us fs (inr (none, same)) = subst LibraryFacts (sym same) (All-nil FunctionFacts)
 
-term_fact : (us : List Piece) (t : Term) → IsTerm us t → TermFacts t
-term_fact us t (inl (p, v, vs, cut, takes, (none, same))) = subst TermFacts (sym same) (integer_fact p v takes)
-term_fact us t (inr (p, n, vs, cut, takes, (q, a, ws, cut', opens, (r, b, xs, cut'', shuts, (none, same))))) = subst TermFacts (sym same) (name_fact p n takes)
-
 more_terms_fact : (us : List Piece) (ts : List Term) → Many (mark kind.Comma) (λ _. IsTerm) us ts → All TermFacts ts
 more_terms_fact us [] e = All-nil TermFacts
 more_terms_fact us (t ∷ ts) (p, a, vs, ws, cut, takes, s, m) = All-cons TermFacts t ts (term_fact vs t s) (more_terms_fact ws ts m)
@@ -53,7 +50,7 @@ terms_fact us ts (t, vs, ws, cut, s, (more, xs, ys, cut', m, (none, same))) =
     subst (All TermFacts) (sym same) (All-cons TermFacts t more (term_fact vs t s) (more_terms_fact xs more m))
 
 print_fact : (us : List Piece) (p : Print) → IsPrint us p → PrintFacts p
-print_fact us p (t, a, vs, cut, takes, (t', a', ws, cut', opens, (ts, xs, ys, at, s, (u, b, zs, at', shuts, (none, same))))) =
+print_fact us p (t, a, vs, cut, takes, (here, rs, cut'', is, (t', a', ws, cut', opens, (ts, xs, ys, at, s, (u, b, zs, at', shuts, (none, same)))))) =
     subst PrintFacts (sym same) (terms_fact xs ts s)
 
 pub client_fact : (us : List Piece) (client : Client) → IsClient us client → ClientFacts client

@@ -1,14 +1,16 @@
 -- What the tests of tokens take.
-use Rattle.std.proofs.Common.{◌≡◌, ℕ, ◌<◌, ◌^◌, Bool, true, false, List, [], Some, None, refl, ◌∙◌, ap, subst, arith}
-use Rattle.std.specs.Prelude.{◌&&◌, ◌==◌, nat_lt, codes, if◌then◌else◌}
+use Rattle.std.proofs.Common.{◌≡◌, ℕ, ◌<◌, ◌^◌, Bool, true, false, List, [], Some, refl, ap, subst, arith, inl, inr, ◌⊎◌}
+use Rattle.std.specs.Prelude.{◌||◌, ◌&&◌, ◌==◌, nat_lt, codes}
 use Rattle.std.specs.Str.{bytes_eq}
 use Rattle.std.proofs.lemmas.Slice.Eq.{bytes_eq-Decides}
 use Rattle.std.proofs.lemmas.Bool.Decides.{Decides-ltb, Decides-eqb}
 use Rattle.evo_base.specs.declared.token.TokenKind.{TokenKind}
 use Rattle.evo_base.specs.declared.token.TokenKind.TheVariants as kind
 use Rattle.evo_parse.specs.Words.{is_keyword, is_identifier, is_name, IsName}
-use Rattle.evo_parse.specs.Pieces.{Piece, number_of, is_kind, is_word, decimal, when, mark, mark_here, word, name, integer, integer_here, lead_by, leads}
-use Rattle.evo_parse.proofs.WordLemmas.{and_both, name_says}
+use Rattle.evo_parse.specs.Pieces.{Piece, is_here, number_of, is_kind, is_word, decimal, when, mark, word, name, integer, begins, leads}
+use Rattle.evo_parse.specs.declared.lexeme.Item.{Item}
+use Rattle.evo_parse.specs.declared.lexeme.Item.TheVariants as item
+use Rattle.evo_parse.proofs.WordLemmas.{and_both, both_and, or_either, or_left, or_right, name_says}
 
 when_some : {A : Type 0} (b : Bool) (a x : A) → when b a ≡ Some x → (b ≡ true) × (a ≡ x)
 when_some true a x e = (refl, cc)
@@ -26,13 +28,13 @@ pub mark_takes : (k : TokenKind) → mark k (a_piece k []) ≡ Some tt
 unfolding mark a_piece
 mark_takes k = ap (λ (b : Bool). when b tt) (same_number (number_of k))
 
-pub mark_here_takes : (k : TokenKind) → mark_here k (a_piece k []) ≡ Some tt
-unfolding mark_here a_piece
-mark_here_takes k = ap (λ (b : Bool). when b tt) (same_number (number_of k))
-
 pub word_takes : (w : List ℕ) → word w (a_piece kind.Word w) ≡ Some tt
 unfolding word a_piece
 word_takes w = ap (λ (b : Bool). when b tt) ((bytes_eq-Decides w w).1 refl)
+
+pub piece_here : (k : TokenKind) (w : List ℕ) → is_here (a_piece k w) ≡ true
+unfolding a_piece
+piece_here k w = refl
 
 pub name_takes : name (a_piece kind.Word (codes "a")) ≡ Some (codes "a")
 unfolding name a_piece is_name is_identifier is_keyword
@@ -42,18 +44,24 @@ pub integer_takes : integer (a_piece kind.Integer (codes "0")) ≡ Some 0
 unfolding integer a_piece
 integer_takes = refl
 
-pub integer_here_takes : integer_here (a_piece kind.Integer (codes "0")) ≡ Some 0
-unfolding integer_here integer a_piece
-integer_here_takes = refl
-
 -- ---- what was taken
 
 is_number : (k : TokenKind) (p : Piece) → is_kind k p ≡ true → number_of p.kind ≡ number_of k
 is_number k p e = (Decides-eqb (number_of p.kind) (number_of k)).0 e
 
-pub mark_number : (k : TokenKind) (p : Piece) (a : Unit {0}) → mark k p ≡ Some a → number_of p.kind ≡ number_of k
+mark_is : (k : TokenKind) (p : Piece) (a : Unit {0}) → mark k p ≡ Some a → is_kind k p ≡ true
 unfolding mark
-mark_number k p a e = is_number k p (when_some (is_kind k p) tt a e).0
+mark_is k p a e = (when_some (is_kind k p) tt a e).0
+
+word_is : (w : List ℕ) (p : Piece) (a : Unit {0}) → word w p ≡ Some a → is_word w p ≡ true
+unfolding word
+word_is w p a e = (when_some (is_word w p) tt a e).0
+
+pub mark_number : (k : TokenKind) (p : Piece) (a : Unit {0}) → mark k p ≡ Some a → number_of p.kind ≡ number_of k
+mark_number k p a e = is_number k p (mark_is k p a e)
+
+pub word_number : (w : List ℕ) (p : Piece) (a : Unit {0}) → word w p ≡ Some a → number_of p.kind ≡ 0
+word_number w p a e = is_number kind.Word p (and_both (is_kind kind.Word p) (bytes_eq p.text w) (word_is w p a e)).0
 
 pub name_number : (p : Piece) (n : List ℕ) → name p ≡ Some n → number_of p.kind ≡ 0
 unfolding name
@@ -78,48 +86,77 @@ integer_fact p n e =
     let w = when_some (is_kind kind.Integer p && nat_lt (decimal p.text) (2 ^ 63)) (decimal p.text) n e in
     subst (λ (x : ℕ). x < 2 ^ 63) w.1 ((Decides-ltb (decimal p.text) (2 ^ 63)).0 (and_both (is_kind kind.Integer p) (nat_lt (decimal p.text) (2 ^ 63)) w.0).1)
 
-pub integer_here_fact : (p : Piece) (n : ℕ) → integer_here p ≡ Some n → n < 2 ^ 63
-unfolding integer_here
-integer_here_fact p n e = go p.below e
-  where
-    go : (b : Bool) → (if b then None else integer p) ≡ Some n → n < 2 ^ 63
-    go true e = absurd cc
-    go false e = integer_fact p n e
+-- a word that is taken has this text
+pub word_text : (w : List ℕ) (p : Piece) (a : Unit {0}) → word w p ≡ Some a → p.text ≡ w
+word_text w p a e = (bytes_eq-Decides p.text w).0 (and_both (is_kind kind.Word p) (bytes_eq p.text w) (word_is w p a e)).1
 
 -- ---- what leads an item
 
-lead_true : (a b : Bool) → lead_by a b ≡ Some true → a ≡ true
-lead_true true b e = refl
-lead_true false true e = absurd cc
-lead_true false false e = absurd cc
+is_taken_word : (w : List ℕ) (p : Piece) → is_word w p ≡ true → word w p ≡ Some tt
+unfolding word
+is_taken_word w p e = ap (λ (b : Bool). when b tt) e
 
-lead_false : (a b : Bool) → lead_by a b ≡ Some false → b ≡ true
-lead_false true b e = absurd cc
-lead_false false true e = refl
-lead_false false false e = absurd cc
+is_taken_mark : (k : TokenKind) (p : Piece) → is_kind k p ≡ true → mark k p ≡ Some tt
+unfolding mark
+is_taken_mark k p e = ap (λ (b : Bool). when b tt) e
 
-pub leads_semicolon : (w : List ℕ) (p : Piece) → leads w p ≡ Some true → mark kind.Semicolon p ≡ Some tt
-unfolding leads mark
-leads_semicolon w p e = ap (λ (b : Bool). when b tt) (lead_true (is_kind kind.Semicolon p) (p.below && is_word w p) e)
+-- a token with which a function begins is taken as what it is
+pub function_begun : (p : Piece) → begins item.Function p ≡ true → (word (codes "func") p ≡ Some tt) ⊎ ((word (codes "public") p ≡ Some tt) ⊎ (mark kind.At p ≡ Some tt))
+unfolding begins
+function_begun p e = elim (or_either (is_word (codes "func") p || is_word (codes "public") p) (is_kind kind.At p) e) [
+  | inl words ↦ elim (or_either (is_word (codes "func") p) (is_word (codes "public") p) words) [
+    | inl is ↦ inl (is_taken_word (codes "func") p is)
+    | inr is ↦ inr (inl (is_taken_word (codes "public") p is))
+  ]
+  | inr is ↦ inr (inr (is_taken_mark kind.At p is))
+]
 
-pub leads_word : (w : List ℕ) (p : Piece) → leads w p ≡ Some false → (p.below ≡ true) × (word w p ≡ Some tt)
-unfolding leads word
-leads_word w p e =
-    let both = and_both p.below (is_word w p) (lead_false (is_kind kind.Semicolon p) (p.below && is_word w p) e) in
-    (both.0, ap (λ (b : Bool). when b tt) both.1)
+pub func_begins : (p : Piece) (a : Unit {0}) → word (codes "func") p ≡ Some a → begins item.Function p ≡ true
+unfolding begins
+func_begins p a e =
+    or_left (is_word (codes "func") p || is_word (codes "public") p) (is_kind kind.At p) (or_left (is_word (codes "func") p) (is_word (codes "public") p) (word_is (codes "func") p a e))
 
-pub semicolon_leads : (w : List ℕ) (p : Piece) (a : Unit {0}) → mark kind.Semicolon p ≡ Some a → leads w p ≡ Some true
-unfolding leads mark
-semicolon_leads w p a e = ap (λ (b : Bool). lead_by b (p.below && is_word w p)) (when_some (is_kind kind.Semicolon p) tt a e).0
+pub public_begins : (p : Piece) (a : Unit {0}) → word (codes "public") p ≡ Some a → begins item.Function p ≡ true
+unfolding begins
+public_begins p a e =
+    or_left (is_word (codes "func") p || is_word (codes "public") p) (is_kind kind.At p) (or_right (is_word (codes "func") p) (is_word (codes "public") p) (word_is (codes "public") p a e))
 
-no_semicolon : (p : Piece) (b : Bool) → number_of p.kind ≡ 0 → is_kind kind.Semicolon p ≡ b → b ≡ false
-no_semicolon p true zero_is e = absurd (omega (arith, is_number kind.Semicolon p e))
-no_semicolon p false zero_is e = refl
+pub at_begins : (p : Piece) (a : Unit {0}) → mark kind.At p ≡ Some a → begins item.Function p ≡ true
+unfolding begins
+at_begins p a e = or_right (is_word (codes "func") p || is_word (codes "public") p) (is_kind kind.At p) (mark_is kind.At p a e)
 
-pub word_leads : (w : List ℕ) (p : Piece) (a : Unit {0}) → p.below ≡ true → word w p ≡ Some a → leads w p ≡ Some false
-unfolding leads word
-word_leads w p a is_below e =
-    let is = (when_some (is_word w p) tt a e).0 in
-    let zero_is = is_number kind.Word p (and_both (is_kind kind.Word p) (bytes_eq p.text w) is).0 in
-    ap (λ (b : Bool). lead_by b (p.below && is_word w p)) (no_semicolon p (is_kind kind.Semicolon p) zero_is refl)
-    ∙ ap (λ (b : Bool). lead_by false (b && is_word w p)) is_below ∙ ap (λ (b : Bool). lead_by false b) is
+pub print_begun : (p : Piece) → begins item.Print p ≡ true → word (codes "print") p ≡ Some tt
+unfolding begins
+print_begun p e = is_taken_word (codes "print") p e
+
+pub print_begins : (p : Piece) (a : Unit {0}) → word (codes "print") p ≡ Some a → begins item.Print p ≡ true
+unfolding begins
+print_begins p a e = word_is (codes "print") p a e
+
+-- no item begins with a semicolon
+pub no_semicolon : (i : Item) (p : Piece) (a : Unit {0}) → begins i p ≡ true → mark kind.Semicolon p ≡ Some a → ⊥
+no_semicolon item.Function p a e takes = elim (function_begun p e) [
+  | inl func ↦ omega (arith, word_number (codes "func") p tt func, mark_number kind.Semicolon p a takes)
+  | inr (inl public) ↦ omega (arith, word_number (codes "public") p tt public, mark_number kind.Semicolon p a takes)
+  | inr (inr at) ↦ omega (arith, mark_number kind.At p tt at, mark_number kind.Semicolon p a takes)
+]
+no_semicolon item.Print p a e takes = omega (arith, word_number (codes "print") p tt (print_begun p e), mark_number kind.Semicolon p a takes)
+
+pub leads_first : (i : Item) (p : Piece) → leads i true p ≡ begins i p
+unfolding leads
+leads_first i p = refl
+
+pub leads_says : (i : Item) (p : Piece) → leads i false p ≡ true → (mark kind.Semicolon p ≡ Some tt) ⊎ ((p.below ≡ true) × (begins i p ≡ true))
+unfolding leads
+leads_says i p e = elim (or_either (is_kind kind.Semicolon p) (p.below && begins i p) e) [
+  | inl is ↦ inl (is_taken_mark kind.Semicolon p is)
+  | inr is ↦ inr (and_both p.below (begins i p) is)
+]
+
+pub semicolon_leads : (i : Item) (p : Piece) (a : Unit {0}) → mark kind.Semicolon p ≡ Some a → leads i false p ≡ true
+unfolding leads
+semicolon_leads i p a e = or_left (is_kind kind.Semicolon p) (p.below && begins i p) (mark_is kind.Semicolon p a e)
+
+pub below_leads : (i : Item) (p : Piece) → p.below ≡ true → begins i p ≡ true → leads i false p ≡ true
+unfolding leads
+below_leads i p is_below e = or_right (is_kind kind.Semicolon p) (p.below && begins i p) (both_and p.below (begins i p) is_below e)

@@ -19,7 +19,7 @@ pub both_and : (a b : Bool) → a ≡ true → b ≡ true → (a && b) ≡ true
 both_and true b e e' = e'
 both_and false b e e' = absurd cc
 
-or_either : (a b : Bool) → (a || b) ≡ true → (a ≡ true) ⊎ (b ≡ true)
+pub or_either : (a b : Bool) → (a || b) ≡ true → (a ≡ true) ⊎ (b ≡ true)
 or_either true b e = inl refl
 or_either false b e = inr e
 
@@ -31,11 +31,11 @@ pub true_not : (a : Bool) → (a ≡ true → ⊥) → not a ≡ true
 true_not true none = absurd (none refl)
 true_not false none = refl
 
-or_left : (a b : Bool) → a ≡ true → (a || b) ≡ true
+pub or_left : (a b : Bool) → a ≡ true → (a || b) ≡ true
 or_left true b e = refl
 or_left false b e = absurd cc
 
-or_right : (a b : Bool) → b ≡ true → (a || b) ≡ true
+pub or_right : (a b : Bool) → b ≡ true → (a || b) ≡ true
 or_right true b e = refl
 or_right false b e = e
 

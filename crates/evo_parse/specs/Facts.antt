@@ -7,16 +7,16 @@ use Rattle.evo_tree.specs.declared.Print.{Print}
 use Rattle.evo_tree.specs.declared.Client.{Client}
 use Rattle.evo_parse.specs.Words.{IsName}
 
-pub record FunctionFacts (function : Function) : Type 0 where
-  pub name : IsName function.name
-  pub value : function.value < 2 ^ 63
-
-abbrev pub LibraryFacts : List Function → Type 0
-LibraryFacts functions = All FunctionFacts functions
-
 abbrev pub TermFacts : Term → Type 0
 TermFacts (term.Integer value) = value < 2 ^ 63
 TermFacts (term.Call name) = IsName name
+
+pub record FunctionFacts (function : Function) : Type 0 where
+  pub name : IsName function.name
+  pub body : TermFacts function.body
+
+abbrev pub LibraryFacts : List Function → Type 0
+LibraryFacts functions = All FunctionFacts functions
 
 abbrev pub PrintFacts : Print → Type 0
 PrintFacts print = All TermFacts print.terms

@@ -1,9 +1,11 @@
 -- Tokens as the grammar sees them.
-use Rattle.std.specs.Prelude.{ℕ, ◌+◌, ◌-◌, ◌*◌, ◌^◌, List, [], ◌∷◌, Option, Some, None, Bool, true, false, ◌&&◌, ◌==◌, nat_lt, if◌then◌else◌, take, drop}
+use Rattle.std.specs.Prelude.{ℕ, ◌+◌, ◌-◌, ◌*◌, ◌^◌, List, [], ◌∷◌, Option, Some, None, Bool, true, false, ◌||◌, ◌&&◌, not, ◌==◌, nat_lt, if◌then◌else◌, take, drop, codes}
 use Rattle.std.specs.Str.{bytes_eq}
 use Rattle.evo_base.specs.declared.token.TokenKind.{TokenKind}
 use Rattle.evo_base.specs.declared.token.TokenKind.TheVariants as kind
 use Rattle.evo_base.specs.declared.token.Token.{Token}
+use Rattle.evo_parse.specs.declared.lexeme.Item.{Item}
+use Rattle.evo_parse.specs.declared.lexeme.Item.TheVariants as item
 use Rattle.evo_parse.specs.Words.{is_name}
 
 -- a token with its text, and whether it stands on a later line than the token before it
@@ -55,10 +57,6 @@ when b a = if b then Some a else None
 unfoldable pub mark : TokenKind → Piece → Option (Unit {0})
 mark k p = when (is_kind k p) tt
 
--- takes a token of this kind that stands on the line of the token before it
-unfoldable pub mark_here : TokenKind → Piece → Option (Unit {0})
-mark_here k p = if p.below then None else when (is_kind k p) tt
-
 -- takes this very word
 unfoldable pub word : List ℕ → Piece → Option (Unit {0})
 word w p = when (is_word w p) tt
@@ -71,15 +69,16 @@ name p = when (is_kind kind.Word p && is_name p.text) p.text
 unfoldable pub integer : Piece → Option ℕ
 integer p = when (is_kind kind.Integer p && nat_lt (decimal p.text) (2 ^ 63)) (decimal p.text)
 
--- takes such an integer that stands on the line of the token before it
-unfoldable pub integer_here : Piece → Option ℕ
-integer_here p = if p.below then None else integer p
+-- stands on the line of the token before it
+abbrev pub is_here : Piece → Bool
+is_here p = not p.below
 
--- takes what leads a further item: a semicolon (true), or the item's own first word on a later line (false)
-abbrev pub lead_by : Bool → Bool → Option Bool
-lead_by true starts = Some true
-lead_by false true = Some false
-lead_by false false = None
+-- what an item of this kind begins with
+unfoldable pub begins : Item → Piece → Bool
+begins item.Function p = is_word (codes "func") p || is_word (codes "public") p || is_kind kind.At p
+begins item.Print p = is_word (codes "print") p
 
-unfoldable pub leads : List ℕ → Piece → Option Bool
-leads w p = lead_by (is_kind kind.Semicolon p) (p.below && is_word w p)
+-- what leads the first item (true), or a further one: a semicolon, or what it begins with on a later line
+unfoldable pub leads : Item → Bool → Piece → Bool
+leads i true p = begins i p
+leads i false p = is_kind kind.Semicolon p || (p.below && begins i p)

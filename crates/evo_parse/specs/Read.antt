@@ -1,30 +1,45 @@
 -- Reading the first form from the left.
-use Rattle.std.specs.Prelude.{ℕ, List, [], ◌∷◌, Bool, true, false, codes}
+use Rattle.std.specs.Prelude.{List, ◌∷◌, Bool, true, false, codes}
 use Rattle.evo_base.specs.declared.token.TokenKind.TheVariants as kind
+use Rattle.evo_tree.specs.declared.Access.{Access}
+use Rattle.evo_tree.specs.declared.Access.TheVariants as access
 use Rattle.evo_tree.specs.declared.Function.{Function}
 use Rattle.evo_tree.specs.declared.Term.{Term}
 use Rattle.evo_tree.specs.declared.Term.TheVariants as tree
 use Rattle.evo_tree.specs.declared.Print.{Print}
 use Rattle.evo_tree.specs.declared.Client.{Client}
 use Rattle.evo_combinators.specs.Reader.{Reader as ReaderOf, ◌>>=◌, pure, alt, one, many}
-use Rattle.evo_parse.specs.Pieces.{Piece, mark, mark_here, word, name, integer, integer_here, leads}
-use Rattle.evo_parse.specs.Grammar.{function}
+use Rattle.evo_combinators.specs.Guard.{ahead, run}
+use Rattle.evo_parse.specs.declared.lexeme.Item.{Item}
+use Rattle.evo_parse.specs.declared.lexeme.Item.TheVariants as item
+use Rattle.evo_parse.specs.Pieces.{Piece, is_here, mark, word, name, integer, leads}
+use Rattle.evo_parse.specs.Grammar as grammar
 
 abbrev pub Reader : Type 0 → Type 0
 Reader A = ReaderOf Piece A
 
--- a further item that begins with a word: behind a semicolon (true), or behind the word itself (false)
-abbrev pub item_at : {A : Type 0} → List ℕ → Reader A → Bool → Reader A
-item_at w rest true = one (word w) >>= (λ _. rest)
-item_at w rest false = rest
-
--- the further items
-abbrev pub further : {A : Type 0} → List ℕ → Reader A → Reader (List A)
-further w rest = many (leads w) (item_at w rest)
-
 -- something that was read before, and then more of it
 abbrev pub after : {A : Type 0} → A → Reader (List A) → Reader (List A)
 after x more = more >>= (λ xs. pure (x ∷ xs))
+
+-- an item, behind a semicolon where there is one
+abbrev pub behind : {A : Type 0} → Reader A → Reader A
+behind p = alt (mark kind.Semicolon) (λ _. p) p
+
+-- all items, of which the first may still be to come (true) or not
+abbrev pub items : {A : Type 0} → Item → Reader A → Bool → Reader (List A)
+items i p first = run (leads i) (λ _. behind p) (λ _ _. false) first
+
+unfoldable pub call : Reader Term
+call = do
+  n ← one name
+  _ ← ahead is_here
+  _ ← one (mark kind.OpenParenthesis)
+  _ ← one (mark kind.CloseParenthesis)
+  pure (tree.Call n)
+
+unfoldable pub term : Reader Term
+term = alt integer (λ v. pure (tree.Integer v)) call
 
 unfoldable pub signature : Reader (Unit {0})
 signature = do
@@ -34,48 +49,53 @@ signature = do
   _ ← one (word (codes "Int"))
   pure tt
 
-unfoldable pub body : Reader ℕ
+unfoldable pub body : Reader Term
 body = do
   _ ← one (mark kind.OpenBrace)
   _ ← one (word (codes "return"))
-  v ← one integer_here
+  t ← ahead is_here >>= (λ _. term)
   _ ← one (mark kind.CloseBrace)
-  pure v
+  pure t
 
-unfoldable pub rest_of_function : Reader Function
-rest_of_function = do
+unfoldable pub inlinable : Reader Access
+inlinable = do
+  _ ← one (word (codes "inlinable"))
+  _ ← one (word (codes "public"))
+  pure access.Inlinable
+
+unfoldable pub access_of : Reader Access
+access_of = alt (word (codes "public")) (λ _. pure access.Public) (alt (mark kind.At) (λ _. inlinable) (pure access.Internal))
+
+unfoldable pub function : Reader Function
+function = do
+  a ← access_of
   _ ← one (word (codes "func"))
   n ← one name
   _ ← signature
-  v ← body
-  pure (function n v)
+  b ← body
+  pure (grammar.function a n b)
 
-unfoldable pub library : Reader (List Function)
-library = alt (word (codes "public")) (λ _. rest_of_function >>= (λ f. further (codes "public") rest_of_function >>= (λ fs. pure (f ∷ fs)))) (pure [])
-
-unfoldable pub call : Reader Term
-call = do
-  n ← one name
-  _ ← one (mark_here kind.OpenParenthesis)
-  _ ← one (mark kind.CloseParenthesis)
-  pure (tree.Call n)
-
-unfoldable pub term : Reader Term
-term = alt integer (λ v. pure (tree.Integer v)) call
+abbrev pub library : Reader (List Function)
+library = items item.Function function true
 
 unfoldable pub terms : Reader (List Term)
 terms = term >>= (λ t. many (mark kind.Comma) (λ _. term) >>= (λ ts. pure (t ∷ ts)))
 
-unfoldable pub rest_of_print : Reader Print
-rest_of_print = do
-  _ ← one (mark_here kind.OpenParenthesis)
+unfoldable pub print : Reader Print
+print = do
+  _ ← one (word (codes "print"))
+  _ ← ahead is_here
+  _ ← one (mark kind.OpenParenthesis)
   ts ← terms
   _ ← one (mark kind.CloseParenthesis)
   pure (record { terms = ts })
+
+abbrev pub prints : Reader (List Print)
+prints = items item.Print print false
 
 unfoldable pub client : Reader Client
 client = do
   _ ← one (word (codes "import"))
   n ← one name
-  ps ← further (codes "print") rest_of_print
+  ps ← prints
   pure (record { «import» = n; prints = ps })

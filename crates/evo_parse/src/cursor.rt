@@ -1,11 +1,12 @@
 //! A place among the tokens of a text.
 
 ghost use Rattle.std.specs.Prelude.{◌≡◌, ◌∷◌, [], ℕ, List, Option, length, take, drop, IfOk, MatchOption};
+ghost use Rattle.evo_combinators.specs.Guard.{ahead, starts};
 ghost use Rattle.evo_combinators.specs.Reader.{lead, one, Eats, Reads};
 ghost use Rattle.evo_parse.specs.Pieces as spec;
 ghost use Rattle.evo_parse.specs.Pieces.{Piece};
 
-use crate::lexeme::Lexeme;
+use crate::lexeme::{Item, Lexeme};
 use evo_base::{Name, Token, TokenKind};
 use evo_combinators::{Fault, ReadError};
 use std::alloc::{AllocError, Global};
@@ -79,6 +80,28 @@ impl<'a> Cursor<'a> {
         ReadError::Fault(Fault::Grammar(self.left()))
     }
 
+    /// Whether the first token leads an item: the first of the text or a further one.
+    #[tactic(auto, unfolding(evo_combinators::specs::Guard::starts))]
+    pub fn leads(&self, item: Item, first: bool) -> bool
+        ensures { result ≡ starts (spec.leads item first) self.now }
+    {
+        match self.next() {
+            Some((token, _)) => token.leads(item, first),
+            None => false,
+        }
+    }
+
+    /// Refuses the first token unless it stands on the line of the token before it.
+    #[tactic(auto, unfolding(evo_combinators::specs::Guard::ahead, evo_combinators::specs::Guard::starts))]
+    pub fn expect_here(&self) -> Result<(), ReadError>
+        ensures { Reads (ahead spec.is_here self.now) result self.now }
+    {
+        match self.next() {
+            Some((token, _)) if token.is_here() => Ok(()),
+            _ => Err(self.refused()),
+        }
+    }
+
     /// Takes a token of this kind.
     #[tactic(auto, unfolding(evo_combinators::specs::Reader::lead))]
     pub fn mark(&mut self, kind: TokenKind) -> Option<()>
@@ -86,17 +109,6 @@ impl<'a> Cursor<'a> {
     {
         let (first, rest) = self.next()?;
         let found = first.mark(kind)?;
-        *self = rest;
-        Some(found)
-    }
-
-    /// Takes a token of this kind on the line of the token before it.
-    #[tactic(auto, unfolding(evo_combinators::specs::Reader::lead))]
-    pub fn mark_here(&mut self, kind: TokenKind) -> Option<()>
-        ensures { Eats (lead (spec.mark_here kind) self.old) result self.old self.new }
-    {
-        let (first, rest) = self.next()?;
-        let found = first.mark_here(kind)?;
         *self = rest;
         Some(found)
     }
@@ -119,29 +131,6 @@ impl<'a> Cursor<'a> {
     {
         let (first, rest) = self.next()?;
         let found = first.integer()?;
-        *self = rest;
-        Some(found)
-    }
-
-    /// Takes an integer below 2^63 on the line of the token before it.
-    #[tactic(auto, unfolding(evo_combinators::specs::Reader::lead))]
-    pub fn integer_here(&mut self) -> Option<u64>
-        ensures { Eats (lead spec.integer_here self.old) result self.old self.new }
-    {
-        let (first, rest) = self.next()?;
-        let found = first.integer_here()?;
-        *self = rest;
-        Some(found)
-    }
-
-    /// Takes what leads a further item that begins with a word: a semicolon (true), or the word
-    /// itself on a later line (false).
-    #[tactic(auto, unfolding(evo_combinators::specs::Reader::lead))]
-    pub fn leads(&mut self, word: &[u8]) -> Option<bool>
-        ensures { Eats (lead (spec.leads word.now) self.old) result self.old self.new }
-    {
-        let (first, rest) = self.next()?;
-        let found = first.leads(word)?;
         *self = rest;
         Some(found)
     }
@@ -173,32 +162,12 @@ impl<'a> Cursor<'a> {
         }
     }
 
-    /// Takes a token of this kind on the line of the token before it, or refuses the first one.
-    pub fn expect_mark_here(&mut self, kind: TokenKind) -> Result<(), ReadError>
-        ensures { Reads (one (spec.mark_here kind) self.old) result self.new }
-    {
-        match self.mark_here(kind) {
-            Some(()) => Ok(()),
-            None => Err(self.refused()),
-        }
-    }
-
     /// Takes this very word, or refuses the first token.
     pub fn expect_word(&mut self, word: &[u8]) -> Result<(), ReadError>
         ensures { Reads (one (spec.word word.now) self.old) result self.new }
     {
         match self.word(word) {
             Some(()) => Ok(()),
-            None => Err(self.refused()),
-        }
-    }
-
-    /// Takes an integer below 2^63 on the line of the token before it, or refuses the first token.
-    pub fn expect_integer_here(&mut self) -> Result<u64, ReadError>
-        ensures { Reads (one spec.integer_here self.old) result self.new }
-    {
-        match self.integer_here() {
-            Some(value) => Ok(value),
             None => Err(self.refused()),
         }
     }

@@ -16,7 +16,7 @@ pub fn one_client()
     ensures { (text : List ℕ) (a b : Client) → SpellsClient text a → SpellsClient text b → a ≡ b }
 {}
 
-/// The functions that a text spells have names, and values below 2^63.
+/// The functions that a text spells have names, and return integers below 2^63 or call names.
 pub fn library_facts()
     ensures { (text : List ℕ) (functions : List Function) → SpellsLibrary text functions → LibraryFacts functions }
 {}

@@ -8,6 +8,13 @@ use evo_base::{Name, TokenKind};
 use std::alloc::{AllocError, Global};
 use std::marker::Model;
 
+/// What a text lists.
+#[derive(Clone, Copy)]
+pub enum Item {
+    Function,
+    Print,
+}
+
 /// A token with its text, and whether it stands on a later line than the token before it.
 #[derive(Drop)]
 pub struct Lexeme<'a> {
@@ -84,20 +91,6 @@ impl<'a> Lexeme<'a> {
         if self.is_kind(kind) { Some(()) } else { None }
     }
 
-    /// A token of this kind on the line of the token before it.
-    #[tactic(auto, unfolding(crate::specs::Pieces::mark_here))]
-    pub fn mark_here(&self, kind: TokenKind) -> Option<()>
-        ensures { result ≡ spec.mark_here kind self.now }
-    {
-        if self.below {
-            None
-        } else if self.is_kind(kind) {
-            Some(())
-        } else {
-            None
-        }
-    }
-
     /// This very word.
     #[tactic(auto, unfolding(crate::specs::Pieces::word))]
     pub fn word(&self, word: &[u8]) -> Option<()>
@@ -118,27 +111,35 @@ impl<'a> Lexeme<'a> {
         }
     }
 
-    /// An integer below 2^63 on the line of the token before it.
-    #[tactic(auto, unfolding(crate::specs::Pieces::integer_here))]
-    pub fn integer_here(&self) -> Option<u64>
-        ensures { result ≡ spec.integer_here self.now }
+    /// Whether it stands on the line of the token before it.
+    pub fn is_here(&self) -> bool
+        ensures { result ≡ spec.is_here self.now }
     {
-        if self.below { None } else { self.integer() }
+        !self.below
     }
 
-    /// What leads a further item that begins with a word: a semicolon (true), or the word itself
-    /// on a later line (false).
-    #[tactic(auto, unfolding(crate::specs::Pieces::leads))]
-    pub fn leads(&self, word: &[u8]) -> Option<bool>
-        ensures { result ≡ spec.leads word.now self.now }
+    /// Whether an item begins with it.
+    #[tactic(auto, unfolding(crate::specs::Pieces::begins))]
+    fn begins(&self, item: Item) -> bool
+        ensures { result ≡ spec.begins item self.now }
     {
-        if self.is_kind(TokenKind::Semicolon) {
-            Some(true)
-        } else if self.below && self.is_word(word) {
-            Some(false)
-        } else {
-            None
+        match item {
+            Item::Function => {
+                self.is_word(b"func") || self.is_word(b"public") || self.is_kind(TokenKind::At)
+            }
+            Item::Print => self.is_word(b"print"),
         }
+    }
+
+    /// Whether it leads the first item of a text, or a further one.
+    #[tactic(auto, unfolding(crate::specs::Pieces::leads))]
+    pub fn leads(&self, item: Item, first: bool) -> bool
+        ensures { result ≡ spec.leads item first self.now }
+    {
+        if first {
+            return self.begins(item);
+        }
+        self.is_kind(TokenKind::Semicolon) || self.below && self.begins(item)
     }
 
     /// A name.

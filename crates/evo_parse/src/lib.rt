@@ -12,6 +12,7 @@ mod laws;
 mod lexeme;
 mod library;
 mod read;
+mod term;
 mod words;
 
 pub use laws::{client_facts, library_facts, one_client, one_library};

@@ -1,13 +1,15 @@
 //! Reads libraries.
 
-ghost use Rattle.std.specs.Prelude.{◌≡◌, ◌∷◌, ℕ, List, codes};
+ghost use Rattle.std.specs.Prelude.{◌≡◌, ℕ, List};
 ghost use Rattle.evo_combinators.specs.Reader.{Reads};
 ghost use Rattle.evo_parse.specs.Read as spec;
 
 use crate::cursor::Cursor;
+use crate::lexeme::Item;
+use crate::term::term;
 use evo_base::{List, TokenKind};
 use evo_combinators::ReadError;
-use evo_tree::Function;
+use evo_tree::{Access, Function, Term};
 use std::alloc::Global;
 
 #[tactic(auto, unfolding(crate::specs::Read::signature))]
@@ -22,70 +24,72 @@ fn signature(tokens: &mut Cursor<'_>) -> Result<(), ReadError>
 }
 
 #[tactic(auto, unfolding(crate::specs::Read::body))]
-fn body(tokens: &mut Cursor<'_>) -> Result<u64, ReadError>
+fn body(alloc: Global, tokens: &mut Cursor<'_>) -> Result<Term, ReadError>
     ensures { Reads (spec.body tokens.old) result tokens.new }
 {
     tokens.expect_mark(TokenKind::OpenBrace)?;
     tokens.expect_word(b"return")?;
-    let value = tokens.expect_integer_here()?;
+    tokens.expect_here()?;
+    let term = term(alloc, tokens)?;
     tokens.expect_mark(TokenKind::CloseBrace)?;
-    Ok(value)
+    Ok(term)
 }
 
-#[tactic(auto, unfolding(crate::specs::Read::rest_of_function))]
-fn rest_of_function(alloc: Global, tokens: &mut Cursor<'_>) -> Result<Function, ReadError>
-    ensures { Reads (spec.rest_of_function tokens.old) result tokens.new }
+// What stands behind the `@`.
+#[tactic(auto, unfolding(crate::specs::Read::inlinable))]
+fn inlinable(tokens: &mut Cursor<'_>) -> Result<Access, ReadError>
+    ensures { Reads (spec.inlinable tokens.old) result tokens.new }
 {
+    tokens.expect_word(b"inlinable")?;
+    tokens.expect_word(b"public")?;
+    Ok(Access::Inlinable)
+}
+
+#[tactic(auto, unfolding(crate::specs::Read::access_of))]
+fn access(tokens: &mut Cursor<'_>) -> Result<Access, ReadError>
+    ensures { Reads (spec.access_of tokens.old) result tokens.new }
+{
+    if let Some(()) = tokens.word(b"public") {
+        return Ok(Access::Public);
+    }
+    match tokens.mark(TokenKind::At) {
+        Some(()) => inlinable(tokens),
+        None => Ok(Access::Internal),
+    }
+}
+
+#[tactic(auto, unfolding(crate::specs::Read::function))]
+fn function(alloc: Global, tokens: &mut Cursor<'_>) -> Result<Function, ReadError>
+    ensures { Reads (spec.function tokens.old) result tokens.new }
+{
+    let access = access(tokens)?;
     tokens.expect_word(b"func")?;
     let name = tokens.expect_name(alloc)?;
     signature(tokens)?;
-    let value = body(tokens)?;
-    Ok(Function { name, value })
+    let body = body(alloc, tokens)?;
+    Ok(Function { access, name, body })
 }
 
-// A further function, behind a semicolon or behind its first word.
-fn function_at(
-    alloc: Global,
-    tokens: &mut Cursor<'_>,
-    semicolon: bool,
-) -> Result<Function, ReadError>
-    ensures { Reads (spec.item_at (codes "public") spec.rest_of_function semicolon tokens.old) result tokens.new }
+// A function, behind a semicolon where there is one.
+fn function_at(alloc: Global, tokens: &mut Cursor<'_>) -> Result<Function, ReadError>
+    ensures { Reads (spec.behind spec.function tokens.old) result tokens.new }
 {
-    if semicolon {
-        tokens.expect_word(b"public")?;
-        rest_of_function(alloc, tokens)
-    } else {
-        rest_of_function(alloc, tokens)
-    }
-}
-
-// The first function and the further ones.
-fn functions(
-    alloc: Global,
-    first: Function,
-    tokens: &mut Cursor<'_>,
-) -> Result<List<Function>, ReadError>
-    ensures { Reads (spec.after first (spec.further (codes "public") spec.rest_of_function) tokens.old) result tokens.new }
-{
-    let mut found = Vec::new(alloc);
-    found.push(first)?;
-    for _turn in 0..tokens.left() {
-        let Some(semicolon) = tokens.leads(b"public") else {
-            return Ok(List::from_vec(found));
-        };
-        found.push(function_at(alloc, tokens, semicolon)?)?;
-    }
-    Ok(List::from_vec(found))
+    let _semicolon = tokens.mark(TokenKind::Semicolon);
+    function(alloc, tokens)
 }
 
 /// A library at the front of the tokens.
-#[tactic(auto, unfolding(crate::specs::Read::library))]
 pub fn library(alloc: Global, tokens: &mut Cursor<'_>) -> Result<List<Function>, ReadError>
     ensures { Reads (spec.library tokens.old) result tokens.new }
 {
-    let Some(()) = tokens.word(b"public") else {
-        return Ok(List::from_vec(Vec::new(alloc)));
-    };
-    let first = rest_of_function(alloc, tokens)?;
-    functions(alloc, first, tokens)
+    let mut found = Vec::new(alloc);
+    let mut first = true;
+    for _turn in 0..tokens.left() {
+        if !tokens.leads(Item::Function, first) {
+            return Ok(List::from_vec(found));
+        }
+        found.push(function_at(alloc, tokens)?)?;
+        first = false;
+    }
+    Ok(List::from_vec(found))
 }

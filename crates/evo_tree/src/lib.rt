@@ -1,23 +1,36 @@
 //! The trees of the first form of library and client.
 //!
-//! A library of this form is a list of public functions without parameters, each of which returns
-//! an integer. A client imports one library and prints integers and what its functions return.
+//! A library of this form is a list of functions without parameters, each of which returns an
+//! integer or what another function returns. A client imports one library and prints integers and
+//! what its functions return.
 #![tactic(auto)]
 
 use evo_base::{List, Name};
 
-/// `public func NAME() -> Int { return INTEGER }`. The value is below 2^63.
-#[derive(Debug, Drop)]
-pub struct Function {
-    pub name: Name,
-    pub value: u64,
+/// Who may use a function.
+#[derive(Clone, Copy, Debug, PartialEq, Eq)]
+pub enum Access {
+    /// The library alone: nothing is written before `func`.
+    Internal,
+    /// Clients too, which call it in the library that they run with: `public`.
+    Public,
+    /// Clients too, which copy its body into their own code: `@inlinable public`.
+    Inlinable,
 }
 
-/// What a client prints: an integer below 2^63, or a call without arguments.
+/// An integer below 2^63, or a call without arguments.
 #[derive(Debug, Drop)]
 pub enum Term {
     Integer(u64),
     Call(Name),
+}
+
+/// `func NAME() -> Int { return TERM }`.
+#[derive(Debug, Drop)]
+pub struct Function {
+    pub access: Access,
+    pub name: Name,
+    pub body: Term,
 }
 
 /// `print(TERM, TERM ..)`: one line, with single spaces between the values.
@@ -33,10 +46,17 @@ pub struct Client {
     pub prints: List<Print>,
 }
 
-/// What a client is built from: the module's name and the names of its public functions, each
-/// `public func NAME() -> Swift.Int`, in source order. The release is 1.0.
+/// What an interface says of a function: its name, and its body where clients may copy that.
+#[derive(Debug, Drop)]
+pub struct Declaration {
+    pub name: Name,
+    pub body: Option<Term>,
+}
+
+/// What a client is built from: the module's name and the functions that clients see, in source
+/// order. The release is 1.0.
 #[derive(Debug, Drop)]
 pub struct Interface {
     pub name: Name,
-    pub functions: List<Name>,
+    pub functions: List<Declaration>,
 }

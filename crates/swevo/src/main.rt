@@ -1,20 +1,12 @@
 //! Whether a new release of a library still serves a client that was built against the old one.
 #![tactic(auto)]
 
-mod job;
-mod load;
-mod rules;
-mod status;
-mod stop;
-mod top;
-
 use evo_base::{DiskFiles, Name, StdSink};
-use status::Status;
+use evo_driver::{Status, swevo};
 use std::alloc::{AllocError, Global};
 use std::io::ErrorKind;
 use std::process::ExitCode;
 use std::{env, rt};
-use top::swevo;
 
 #[cfg(test)]
 mod tests;

@@ -4,12 +4,11 @@
 //! library, the new one and the client (`-` where the file is not there), the status, what is on
 //! `out` and on `err`, and the numbers of the calls on the files, on `out` and on `err` that fail.
 
-use crate::status::Status;
-use crate::top::swevo;
 use evo_base::{
     DiskFiles, Failed, Files, GetFault, Key, List, Mark, MemFiles, MemSink, Name, Part,
     ProtocolName, Sink, StdSink,
 };
+use evo_driver::{Status, swevo};
 use evo_machine::{End, Machine};
 use std::alloc::Global;
 use std::fs;
@@ -29,6 +28,12 @@ const OLD_REFUSED: &str = "old.swift:1:1: not built yet\n";
 const NEW_REFUSED: &str = "new.swift:1:1: not built yet\n";
 
 const CLIENT_REFUSED: &str = "main.swift:1:1: not built yet\n";
+
+const OLD_TOO_LONG: &str = "old.swift: file too long\n";
+
+const NEW_TOO_LONG: &str = "new.swift: file too long\n";
+
+const CLIENT_TOO_LONG: &str = "main.swift: file too long\n";
 
 // Words of many kinds.
 const WORDS: &str = "\
@@ -72,8 +77,13 @@ evolve Lib old.swift new.swift main.swift 10|public func f() -> Int { return 1 }
 evolve Lib old.swift new.swift main.swift 10|let x = 1|-|-|4||old.swift:1:1: not built yet\n~\
 evolve Lib old.swift new.swift main.swift 10|public func f() -> Int { return 1 }|let x = 1|-|4||new.swift:1:1: not built yet\n~\
 evolve Lib old.swift new.swift main.swift 10|public func f() -> Int { return 1 }|public func f() -> Int { return 2 }|let x = 1|4||main.swift:1:1: not built yet\n~\
-evolve Lib old.swift new.swift main.swift 10|public func f() -> Int { return 1 }|||4||new.swift:1:1: not built yet\n~\
-evolve Lib old.swift new.swift main.swift 10|public func g() -> Int { return 3 }\npublic func f() -> Int { return 4 }|public func f() -> Int { return 1 }|import Lib\nprint(f())|4||new.swift:1:1: not built yet\n~\
+evolve Lib old.swift new.swift main.swift 10|public func f() -> Int { return 1 }||import Lib\nprint(f())|5|E1 old Lib.f() new Lib: declaration removed\n|~\
+evolve Lib old.swift new.swift main.swift 10|public func f() -> Int { return 1 }||-|5|E1 old Lib.f() new Lib: declaration removed\n|~\
+evolve Lib old.swift new.swift main.swift 10|public func f() -> Int { return 1 }||let x = 1|5|E1 old Lib.f() new Lib: declaration removed\n|~\
+evolve Lib old.swift new.swift main.swift 10|public func g() -> Int { return 3 }\npublic func f() -> Int { return 4 }||import Lib\nprint(f())|5|E1 old Lib.g() new Lib: declaration removed\nE1 old Lib.f() new Lib: declaration removed\n|~\
+evolve Lib old.swift new.swift main.swift 10|public func f() -> Int { return 4 }\npublic func g() -> Int { return 3 }||import Lib\nprint(f())|5|E1 old Lib.f() new Lib: declaration removed\nE1 old Lib.g() new Lib: declaration removed\n|~\
+evolve Lib old.swift new.swift main.swift 10|public func f() -> Int { return 1 }|public func g() -> Int { return 3 }|import Lib\nprint(f())|5|E1 old Lib.f() new Lib: declaration removed\n|~\
+evolve Lib old.swift new.swift main.swift 10|public func g() -> Int { return 3 }\npublic func f() -> Int { return 4 }|public func f() -> Int { return 1 }|import Lib\nprint(f())|5|E1 old Lib.g() new Lib: declaration removed\n|~\
 evolve Lib old.swift new.swift main.swift 10|public func f() -> Int { return 1 }|public func g() -> Int { return 3 }\npublic func f() -> Int { return 4 }|import Lib\nprint(f())|0|4\n|~\
 evolve Lib old.swift new.swift main.swift 10|public func f() -> Int { return 1 }|public func g() -> Int { return 3 }\npublic func f() -> Int { return 4 }|import Lib\nprint(g())|4||main.swift:1:1: not built yet\n~\
 evolve Lib old.swift new.swift main.swift 10|public func g() -> Int { return 3 }\npublic func f() -> Int { return 4 }|public func g() -> Int { return 3 }\npublic func f() -> Int { return 4 }|import Lib\nprint(g())|0|3\n|~\
@@ -104,11 +114,32 @@ evolve Lib old.swift new.swift main.swift 2|public func f() -> Int { return 1 }|
 evolve Lib old.swift new.swift main.swift 2|public func f()->Int{return 0}\n|public func f()->Int{return 0}\n|import Lib\nprint(f())|0|0\n|~\
 evolve Lib old.swift new.swift main.swift 2|public func f() -> Int { return 007 }|public func f() -> Int { return 007 }|import Lib\nprint(f())|0|7\n|~\
 evolve Lib old.swift new.swift main.swift 2|\tpublic\tfunc f()\t-> Int\t{ return\t5 }\t|\tpublic\tfunc f()\t-> Int\t{ return\t5 }\t|import Lib\nprint(f())|0|5\n|~\
+evolve Lib old.swift new.swift main.swift 2|@\ninlinable\npublic\nfunc f() -> Int { return 6 }|@ inlinable public func f() -> Int { return 8 }|import Lib\nprint(f())|0|6\n|~\
+evolve Lib old.swift new.swift main.swift 3|@inlinable public func f() -> Int { return g() };func h() -> Int { return 1 };public func g() -> Int { return 2 }|func h() -> Int { return 3 }\n@inlinable public func f() -> Int { return 0 }\npublic func g() -> Int { return 4 }|import Lib\nprint(f())|0|4\n|~\
 evolve Lib old.swift new.swift main.swift 2|public\nfunc\nf\n(\n)\n->\nInt\n{\nreturn 8\n}|public\nfunc\nf\n(\n)\n->\nInt\n{\nreturn 8\n}|import Lib\nprint(f())|0|8\n|~\
 evolve Lib old.swift new.swift main.swift 2|public func f() -> Int { return 9223372036854775807 }|public func f() -> Int { return 9223372036854775807 }|import Lib\nprint(f())|0|9223372036854775807\n|~\
 evolve Lib old.swift new.swift main.swift 2|public func g() -> Int { return 3 };public func f() -> Int { return 4 }|public func g() -> Int { return 3 };public func f() -> Int { return 4 }|import Lib\nprint(f())|0|4\n|~\
 evolve Lib old.swift new.swift main.swift 2|public func g() -> Int { return 3 }\r\npublic func f() -> Int { return 4 }\r\n|public func g() -> Int { return 3 }\r\npublic func f() -> Int { return 4 }\r\n|import Lib\nprint(f())|0|4\n|~\
 evolve Lib old.swift new.swift main.swift 2|public func f() -> Int { return 4 } ;\n\npublic func _1() -> Int { return 3 }|public func f() -> Int { return 4 } ;\n\npublic func _1() -> Int { return 3 }|import Lib\nprint(f())|0|4\n|";
+
+// Which body a call runs: the client's copy, or the new library's.
+const BODIES: &str = "\
+evolve Lib old.swift new.swift main.swift 10|@inlinable public func f() -> Int { return 1 }|@inlinable public func f() -> Int { return 2 }|import Lib\nprint(f())|0|1\n|~\
+evolve Lib old.swift new.swift main.swift 1|@inlinable public func f() -> Int { return 1 }|@inlinable public func f() -> Int { return 2 }|import Lib\nprint(f())|2||out of ticks\n~\
+evolve Lib old.swift new.swift main.swift 2|@inlinable public func f() -> Int { return 1 }|@inlinable public func f() -> Int { return 2 }|import Lib\nprint(f())|0|1\n|~\
+evolve Lib old.swift new.swift main.swift 10|@inlinable public func f() -> Int { return 1 }|public func f() -> Int { return 2 }|import Lib\nprint(f())|0|1\n|~\
+evolve Lib old.swift new.swift main.swift 10|public func f() -> Int { return 1 }|@inlinable public func f() -> Int { return 2 }|import Lib\nprint(f())|0|2\n|~\
+evolve Lib old.swift new.swift main.swift 10|public func h() -> Int { return 1 }\n@inlinable public func g() -> Int { return h() }|public func h() -> Int { return 2 }\n@inlinable public func g() -> Int { return 7 }|import Lib\nprint(g())|0|2\n|~\
+evolve Lib old.swift new.swift main.swift 3|public func h() -> Int { return 1 }\n@inlinable public func g() -> Int { return h() }|public func h() -> Int { return 2 }\n@inlinable public func g() -> Int { return 7 }|import Lib\nprint(g())|0|2\n|~\
+evolve Lib old.swift new.swift main.swift 2|public func h() -> Int { return 1 }\n@inlinable public func g() -> Int { return h() }|public func h() -> Int { return 2 }\n@inlinable public func g() -> Int { return 7 }|import Lib\nprint(g())|2||out of ticks\n~\
+evolve Lib old.swift new.swift main.swift 10|public func f() -> Int { return f() }|public func f() -> Int { return f() }|import Lib\nprint(f())|2||out of ticks\n~\
+evolve Lib old.swift new.swift main.swift 10|@inlinable public func f() -> Int { return f() }|@inlinable public func f() -> Int { return f() }|import Lib\nprint(f())|2||out of ticks\n~\
+evolve Lib old.swift new.swift main.swift 10|func h() -> Int { return 5 }\npublic func f() -> Int { return h() }|func h() -> Int { return 6 }\npublic func f() -> Int { return h() }|import Lib\nprint(f())|0|6\n|~\
+evolve Lib old.swift new.swift main.swift 10|func f() -> Int { return 1 }|func f() -> Int { return 1 }|import Lib\nprint(f())|4||main.swift:1:1: not built yet\n~\
+evolve Lib old.swift new.swift main.swift 10|func h() -> Int { return 1 }\n@inlinable public func f() -> Int { return h() }|public func f() -> Int { return 2 }|import Lib\nprint(f())|4||old.swift:1:1: not built yet\n~\
+evolve Lib old.swift new.swift main.swift 10|public func f() -> Int { return h() }|public func f() -> Int { return 2 }|import Lib\nprint(f())|4||old.swift:1:1: not built yet\n~\
+evolve Lib old.swift new.swift main.swift 10|public func f() -> Int { return 1 }|func f() -> Int { return 2 }|import Lib\nprint(f())|5|E1 old Lib.f() new Lib: declaration removed\n|~\
+evolve Lib old.swift new.swift main.swift 10|func f() -> Int { return 1 }||import Lib\nprint(1)|0|1\n|";
 
 // Calls that fail: of the files, of `out` and of `err`.
 const FAILING: &str = "\
@@ -117,7 +148,11 @@ evolve Lib old.swift new.swift main.swift 10|public func f() -> Int { return 1 }
 evolve Lib old.swift new.swift main.swift 10|public func f() -> Int { return 1 }|public func f() -> Int { return 2 }|import Lib\nprint(f())|6||cannot read main.swift\n|3|1|0~\
 evolve Lib old.swift new.swift main.swift 10|public func f() -> Int { return 1 }|public func f() -> Int { return 2 }|import Lib\nprint(f())|0|2\n||4|2|1~\
 evolve Lib old.swift new.swift main.swift 10|public func f() -> Int { return 1 }|public func f() -> Int { return 2 }|import Lib\nprint(f())|7|2||0|1|0~\
+evolve Lib old.swift new.swift main.swift 10|public func f() -> Int { return 1 }|public func f() -> Int { return 2 }|import Lib\nprint(1)\nprint(2)|7|1||0|1|0~\
 evolve Lib old.swift new.swift main.swift 10|public func f() -> Int { return 1 }|public func f() -> Int { return 2 }|import Lib\nprint(1)\nprint(2)|7|1\n2||0|2|0~\
+evolve Lib old.swift new.swift main.swift 10|public func g() -> Int { return 3 }\npublic func f() -> Int { return 4 }||import Lib\nprint(f())|7|E1 old Lib.g() new Lib||0|1|0~\
+evolve Lib old.swift new.swift main.swift 10|public func g() -> Int { return 3 }\npublic func f() -> Int { return 4 }||import Lib\nprint(f())|7|E1 old Lib.g() new Lib: declaration removed\nE1 old Lib.f() new Lib||0|2|0~\
+evolve Lib old.swift new.swift main.swift 10|public func g() -> Int { return 3 }\npublic func f() -> Int { return 4 }||import Lib\nprint(f())|5|E1 old Lib.g() new Lib: declaration removed\nE1 old Lib.f() new Lib: declaration removed\n||3|3|1~\
 evolve Lib old.swift new.swift main.swift 10|public func f() -> Int { return 1 }|public func f() -> Int { return 2 }|import Lib\nprint(1)\nprint(2, 3)\nprint(4)|7|1\n2 ||0|2|0~\
 evolve Lib old.swift new.swift main.swift 0|public func f() -> Int { return 1 }|public func f() -> Int { return 2 }|import Lib\nprint(1)\nprint(2)|7||out of|0|1|1~\
 evolve Lib old.swift new.swift main.swift 10|public func f() -> Int { return 1 }|public func f() -> Int { return 2 }|import Lib\nlet x = 1|7||main.swift:1:1:|0|1|1~\
@@ -173,11 +208,21 @@ public func f() -> Int { return 1; }~\
 public func f() -> Int { 1 }~\
 public func f() -> Int { return 1~\
 public func f() -> Int { return 1 } // one~\
-public func f() -> Int { return f() }~\
+public func f() -> Int { return g() }~\
+public func f() -> Int { return f(1) }~\
+public func f() -> Int { return\nf() }~\
+public func f() -> Int { return f\n() }~\
 public func f() -> Bool { return 1 }~\
 public func f(x: Int) -> Int { return 1 }~\
 public func f() - > Int { return 1 }~\
-func f() -> Int { return 1 }~\
+@inlinable func f() -> Int { return 1 }~\
+@ func f() -> Int { return 1 }~\
+public @inlinable func f() -> Int { return 1 }~\
+inlinable public func f() -> Int { return 1 }~\
+@inlined public func f() -> Int { return 1 }~\
+@inlinable @inlinable public func f() -> Int { return 1 }~\
+func g() -> Int { return 2 }\n@inlinable public func f() -> Int { return g() }~\
+func f() -> Int { return 1 }\npublic func f() -> Int { return 1 }~\
 public let f = 1~\
 import Lib~\
 public func print() -> Int { return 2 }~\
@@ -226,6 +271,20 @@ impl World {
             let text = Vec::from_slice(alloc, text.as_bytes())?;
             self.files.add(name(alloc, at)?, text, 0)?;
         }
+        Ok(())
+    }
+
+    // Prepares a file with a text and so many spaces behind it.
+    fn add_spaced(
+        &mut self,
+        alloc: Global,
+        at: &str,
+        text: &str,
+        count: usize,
+    ) -> Result<(), Fail> {
+        let mut bytes = Vec::from_slice(alloc, text.as_bytes())?;
+        bytes.append(&mut b" ".repeat(alloc, count)?)?;
+        self.files.add(name(alloc, at)?, bytes, 0)?;
         Ok(())
     }
 
@@ -327,6 +386,11 @@ fn libraries_that_are_accepted(rt: HostRuntime) -> Result<(), Fail> {
 }
 
 #[test]
+fn bodies_that_are_run(rt: HostRuntime) -> Result<(), Fail> {
+    check_table(&rt, rt.alloc(), BODIES)
+}
+
+#[test]
 fn calls_that_fail(rt: HostRuntime) -> Result<(), Fail> {
     let alloc = rt.alloc();
     check_table(&rt, alloc, FAILING)?;
@@ -369,15 +433,6 @@ fn library_of(alloc: Global, count: u64) -> Result<String, Fail> {
     Ok(text)
 }
 
-// A text with white space behind it, up to this length in bytes.
-fn padded(alloc: Global, text: &str, len: usize) -> Result<String, Fail> {
-    let mut padded = String::from_str(alloc, text)?;
-    for _ in text.len()..len {
-        padded.push(' ')?;
-    }
-    Ok(padded)
-}
-
 #[test]
 fn numbers_of_functions(rt: HostRuntime) -> Result<(), Fail> {
     let alloc = rt.alloc();
@@ -395,23 +450,80 @@ fn numbers_of_functions(rt: HostRuntime) -> Result<(), Fail> {
     world.check(&rt, alloc, JOB, ("4", "", NEW_REFUSED))
 }
 
+// Tries old, new and client with so many spaces behind them.
+fn check_spaced(
+    rt: &impl Abort,
+    alloc: Global,
+    texts: [&str; 3],
+    counts: [usize; 3],
+    expected: (&str, &str, &str),
+) -> Result<(), Fail> {
+    let mut world = World::new(alloc, 100)?;
+    world.add_spaced(alloc, "old.swift", texts[0], counts[0])?;
+    world.add_spaced(alloc, "new.swift", texts[1], counts[1])?;
+    world.add_spaced(alloc, "main.swift", texts[2], counts[2])?;
+    world.check(rt, alloc, JOB, expected)
+}
+
+// The most bytes of a file are 1,048,576.
 #[test]
 fn lengths_of_files(rt: HostRuntime) -> Result<(), Fail> {
     let alloc = rt.alloc();
-    for (extra, expected) in [(0, ("0", "2\n", "")), (1, ("4", "", CLIENT_REFUSED))] {
+    let all = [ONE, TWO, CLIENT];
+    let rest = [
+        1_048_576 - ONE.len(),
+        1_048_576 - TWO.len(),
+        1_048_576 - CLIENT.len(),
+    ];
+    check_spaced(&rt, alloc, all, rest, ("0", "2\n", ""))?;
+    let full = [1_048_576; 3];
+    check_spaced(&rt, alloc, [""; 3], full, ("4", "", CLIENT_REFUSED))?;
+    check_spaced(
+        &rt,
+        alloc,
+        ["", TWO, CLIENT],
+        [1_048_577, 0, 0],
+        ("11", "", OLD_TOO_LONG),
+    )?;
+    check_spaced(
+        &rt,
+        alloc,
+        [ONE, "", CLIENT],
+        [0, 1_048_577, 0],
+        ("11", "", NEW_TOO_LONG),
+    )?;
+    check_spaced(
+        &rt,
+        alloc,
+        [ONE, TWO, ""],
+        [0, 0, 1_048_577],
+        ("11", "", CLIENT_TOO_LONG),
+    )?;
+    check_spaced(&rt, alloc, all, [2_000_000; 3], ("11", "", OLD_TOO_LONG))?;
+    let mut world = World::new(alloc, 100)?;
+    world.add_spaced(alloc, "old.swift", "", 1_048_577)?;
+    world.fail(0, 0, 1)?;
+    world.check(&rt, alloc, JOB, ("7", "", "old.swift: f"))
+}
+
+// The most bytes of an interface are 16,777,216. The functions of a file of 1,048,576 bytes, which are 4,096 at
+// most, do not lead past that. So the module has a long name, beside which the text of an interface without
+// functions has 74 bytes.
+#[test]
+fn lengths_of_interfaces(rt: HostRuntime) -> Result<(), Fail> {
+    let alloc = rt.alloc();
+    for (count, expected) in [
+        (16_777_142, ("4", "", CLIENT_REFUSED)),
+        (16_777_143, ("11", "", "old.swift: interface too long\n")),
+    ] {
+        let module = b"a".repeat(alloc, count)?;
+        let module = str::from_utf8(&module)?;
+        let line = format!(in alloc; "evolve {module} old.swift new.swift main.swift 10")?;
         let mut world = World::new(alloc, 100)?;
-        let old = padded(alloc, ONE, 1_048_576)?;
-        let new = padded(alloc, TWO, 1_048_576)?;
-        let client = padded(alloc, CLIENT, 1_048_576 + extra)?;
-        world.add_all(alloc, &old, &new, &client)?;
-        world.check(&rt, alloc, JOB, expected)?;
+        world.add_all(alloc, "", "", CLIENT)?;
+        world.check(&rt, alloc, line.as_str(), expected)?;
     }
-    let mut world = World::new(alloc, 100)?;
-    world.add_all(alloc, &padded(alloc, ONE, 1_048_577)?, TWO, CLIENT)?;
-    world.check(&rt, alloc, JOB, ("4", "", OLD_REFUSED))?;
-    let mut world = World::new(alloc, 100)?;
-    world.add_all(alloc, ONE, &padded(alloc, TWO, 1_048_577)?, CLIENT)?;
-    world.check(&rt, alloc, JOB, ("4", "", NEW_REFUSED))
+    Ok(())
 }
 
 #[test]

@@ -1,10 +1,9 @@
-use Rattle.std.proofs.Common.{rules, ◌≡◌, ◌∷◌, []}
-use Rattle.evo_build.specs.Objects.{start_function, imports_of}
-use Rattle.evo_build.proofs.Links.{works}
+use Rattle.evo_build.proofs.Links.{answer_works, answer_timed}
 use Rattle.evo_build.proofs.client.build_client.Goals as goal
 
 pub returns-clause-works : goal.returns-clause-works
 returns-clause-works c =
-    let functions : c.push.new.self.items ≡ start_function c.args.interface.now.name c.args.client.now.prints ∷ [] = search rules in
-    let imports : c.in_ok-imports.imports.items ≡ imports_of c.args.interface.now.name c.args.client.now.prints = search rules in
-    works c.args.interface.now c.args.client.now _ c.requires functions imports
+    answer_works c.args.interface.now c.args.client.now c.as_slice-2.result.now c.as_slice-2.ensures c.requires.interface c.requires.client c.client_object.result c.client_object.ensures
+
+pub returns-clause-timed : goal.returns-clause-timed
+returns-clause-timed c = answer_timed c.args.interface.now c.as_slice-2.result.now c.client_object.result c.client_object.ensures

@@ -3,7 +3,7 @@ use Rattle.std.proofs.lemmas.List.{append-nil, drop_all}
 use Rattle.evo_tree.specs.declared.Function.{Function as Declared}
 use Rattle.evo_build.specs.Objects.{library_functions}
 use Rattle.evo_build.specs.Works.{AreTimed}
-use Rattle.evo_build.proofs.Links.{library-timed}
+use Rattle.evo_build.proofs.Images.{library-timed}
 use Rattle.evo_build.proofs.library.build_library.Goals as goal
 
 pub returns-clause-timed : goal.returns-clause-timed

@@ -3,9 +3,9 @@ use Rattle.std.specs.Prelude.{IsSome}
 use Rattle.evo_base.specs.Names.{position_of}
 use Rattle.evo_machine.specs.declared.image.Function.{Function}
 use Rattle.evo_machine.specs.Image.{symbols_of}
-use Rattle.evo_build.proofs.Cuts.{cut}
+use Rattle.evo_base.proofs.Loops.{cut}
 use Rattle.evo_build.specs.Linking.{StandsTwice}
-use Rattle.evo_build.proofs.Links.{stands_twice}
+use Rattle.evo_build.proofs.Images.{stands_twice}
 use Rattle.evo_build.proofs.linker.table_of.Goals as goal
 
 pub returns-then-not-branch : goal.returns-then-not-branch

@@ -1,13 +1,14 @@
-use Rattle.std.proofs.Common.{◌≡◌, ℕ, List, ◌++◌, length}
-use Rattle.evo_iface.specs.Text.{ArePlain, function_lines}
+use Rattle.std.proofs.Common.{◌≡◌, List, ◌++◌, length}
+use Rattle.evo_tree.specs.declared.Declaration.{Declaration}
+use Rattle.evo_iface.specs.Text.{ArePlain, functions_text}
 use Rattle.evo_iface.proofs.reading.read_functions.Given as goal
 
--- the lines so far and the rest are the text, and all lines of a text are those found and lines of the rest
+-- the functions so far and the rest are the text, and all functions of a text are those found and those of the rest
 abbrev pub invariant-loop-rest : goal.invariant-loop-rest
 invariant-loop-rest l = record {
-  found : (names : List (List ℕ)) → l.rest ≡ function_lines names → l.text ≡ function_lines (l.names.items ++ names);
-  only : (names : List (List ℕ)) → ArePlain names → l.text ≡ function_lines names →
-      (more : List (List ℕ)) × (names ≡ l.names.items ++ more) × ArePlain more × (l.rest ≡ function_lines more);
+  found : (ds : List Declaration) → l.rest ≡ functions_text ds → l.text ≡ functions_text (l.functions.items ++ ds);
+  only : (ds : List Declaration) → ArePlain ds → l.text ≡ functions_text ds →
+      (more : List Declaration) × (ds ≡ l.functions.items ++ more) × ArePlain more × (l.rest ≡ functions_text more);
 }
 
 abbrev pub decreases-loop-rest : goal.decreases-loop-rest

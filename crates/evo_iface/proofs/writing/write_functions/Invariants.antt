@@ -1,8 +1,8 @@
 use Rattle.std.proofs.Common.{◌≡◌, ◌++◌, drop}
-use Rattle.evo_iface.specs.Text.{function_lines}
-use Rattle.evo_tree.specs.Interface.{names_of}
+use Rattle.evo_iface.specs.Text.{functions_text}
+use Rattle.evo_tree.specs.Interface.{declarations_of}
 use Rattle.evo_iface.proofs.writing.write_functions.Given as goal
 
 -- the text so far and the lines of the functions that are left
 abbrev pub invariant-loop-function : goal.invariant-loop-function
-invariant-loop-function l = l.initial.text.items ++ function_lines (names_of l.functions) ≡ l.text.items ++ function_lines (names_of (drop l.function-index l.functions))
+invariant-loop-function l = l.initial.text.items ++ functions_text (declarations_of l.functions) ≡ l.text.items ++ functions_text (declarations_of (drop l.function-index l.functions))

@@ -1,24 +1,24 @@
-use Rattle.std.proofs.Common.{◌≡◌, ℕ, ◌-◌, ◌+◌, List, [], ◌∷◌, ◌++◌, sym, ap, ap₂, ◌∙◌, rules}
-use Rattle.std.specs.Prelude.{codes}
+use Rattle.std.proofs.Common.{◌≡◌, ℕ, ◌-◌, ◌+◌, Bool, false, List, [], ◌∷◌, ◌++◌, sym, ap, ap₂, ◌∙◌, rules}
 use Rattle.evo_tree.specs.declared.Print.{Print}
-use Rattle.evo_combinators.proofs.Turns.{After, turn_init, turn_more}
+use Rattle.evo_combinators.proofs.RunTurns.{RunAfter, run_init, run_more}
+use Rattle.evo_parse.specs.declared.lexeme.Item.TheVariants as item
 use Rattle.evo_parse.specs.Pieces.{leads}
-use Rattle.evo_parse.specs.Read.{item_at, rest_of_print}
+use Rattle.evo_parse.specs.Read.{Reader, behind}
+use Rattle.evo_parse.specs.Read as read
 use Rattle.evo_parse.proofs.client.prints.Goals as goal
 
 pub loop-turn-init : goal.loop-turn-init
 loop-turn-init c =
-    let f = leads (codes "print") in
-    let q = item_at (codes "print") rest_of_print in
+    let q : Bool → Reader Print = λ _. behind read.print in
     let ts = c.args.tokens.now in
     let found : c.new-found.result.items ≡ [] = search rules in
-    turn_init f q ts ∙ ap₂ (λ (n : ℕ) (l : List Print). After f q (n - 0) l ts) (sym c.left-turn-end.ensures) (sym found)
+    run_init (leads item.Print) q (λ _ _. false) false ts
+    ∙ ap₂ (λ (n : ℕ) (l : List Print). RunAfter (leads item.Print) q (λ _ _. false) (n - 0) l false ts) (sym c.left-turn-end.ensures) (sym found)
 
 pub loop-turn-preserved : goal.loop-turn-preserved
 loop-turn-preserved c =
-    let f = leads (codes "print") in
-    let q = item_at (codes "print") rest_of_print in
+    let q : Bool → Reader Print = λ _. behind read.print in
     let found : c.push.new.self.items ≡ c.loop-turn.found.items ++ c.in_ok-print_at.field-0 ∷ [] = search rules in
-    turn_more f q _ c.left-turn-end.result c.loop-turn._turn c.loop-turn.found.items c.loop-turn.tokens c.loop-turn.invariant c.loop-turn-test.true
-    c.in-Some.semicolon c.leads.new.self c.in_ok-print_at.field-0 c.print_at.new.tokens c.in-Some.ensures c.in_ok-print_at.ensures
-    ∙ ap (λ (l : List Print). After f q (c.left-turn-end.result - (c.loop-turn._turn + 1)) l c.print_at.new.tokens) (sym found)
+    run_more (leads item.Print) q (λ _ _. false) _ c.left-turn-end.result c.loop-turn._turn c.loop-turn.found.items false c.loop-turn.tokens c.loop-turn.invariant c.loop-turn-test.true
+    c.in_ok-print_at.field-0 c.print_at.new.tokens (sym c.leads.ensures ∙ c.if-not-leads.false) c.in_ok-print_at.ensures
+    ∙ ap (λ (l : List Print). RunAfter (leads item.Print) q (λ _ _. false) (c.left-turn-end.result - (c.loop-turn._turn + 1)) l false c.print_at.new.tokens) (sym found)

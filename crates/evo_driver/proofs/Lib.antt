@@ -1,0 +1,6 @@
+pub mod Gives
+pub mod Runs
+pub mod Filters
+pub mod Loads
+pub mod Built
+pub mod Written

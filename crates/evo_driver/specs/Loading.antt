@@ -1,0 +1,102 @@
+-- What loading the files of a job answers.
+use Rattle.std.specs.Prelude.{◌≡◌, ◌+◌, ◌<◌, ◌≤◌, ℕ, List, length, Option, Bool, true, Result, Ok, Err}
+use Rattle.evo_base.specs.Causes.{Rose}
+use Rattle.evo_base.specs.Content.{IsFront}
+use Rattle.evo_tree.specs.declared.Function.{Function}
+use Rattle.evo_tree.specs.Interface.{interface_of}
+use Rattle.evo_tree.specs.Accepted.{IsAcceptedLibrary, IsAcceptedInterface, IsAcceptedClient}
+use Rattle.evo_tree.specs.Rules.{BreaksNoRule, removed}
+use Rattle.evo_front.specs.declared.library.AcceptedLibrary.{AcceptedLibrary}
+use Rattle.evo_front.specs.Texts.{file_limit}
+use Rattle.evo_machine.specs.declared.image.Function.{Function as MachineFunction}
+use Rattle.evo_build.specs.Meaning.{Ran, run_of}
+use Rattle.evo_build.specs.Works.{DoesAs}
+use Rattle.evo_words.specs.declared.words.Job.{Job}
+use Rattle.evo_driver.specs.declared.stop.Which.{Which}
+use Rattle.evo_driver.specs.declared.stop.Refusal.{Refusal}
+use Rattle.evo_driver.specs.declared.stop.Refusal.TheVariants as refusal
+use Rattle.evo_driver.specs.declared.stop.Stop.{Stop}
+use Rattle.evo_driver.specs.declared.stop.Stop.TheVariants as stop
+use Rattle.evo_driver.specs.declared.load.Libraries.{Libraries}
+use Rattle.evo_driver.specs.declared.load.Loaded.{Loaded}
+use Rattle.evo_driver.specs.Files.{Holds, HoldsLibrary, Passes, Breaks, Accepts, Refuses, Reaches, name_of}
+
+-- Why one file is not had: before and now are the count of failed calls, and failed is whether the last call failed.
+abbrev pub LacksFile : (Refusal → Type 0) → Type 0 → Which → ℕ → ℕ → Bool → Stop → Type 0
+LacksFile wrong sure at before now failed (stop.Refused which why) = (now ≡ before) × (which ≡ at) × wrong why
+LacksFile wrong sure at before now failed (stop.NotRead which) = Rose before now × (failed ≡ true) × (which ≡ at) × (sure → ⊥)
+LacksFile wrong sure at before now failed (stop.Broken names) = ⊥
+LacksFile wrong sure at before now failed stop.Memory = now ≡ before
+
+-- one file: what it holds, or why it is not had
+abbrev pub ReadsAs : {T : Type 0} → (T → Type 0) → (Refusal → Type 0) → Type 0 → Which → ℕ → ℕ → Bool → Result T Stop → Type 0
+ReadsAs holds wrong sure at before now failed (Ok x) = (now ≡ before) × holds x
+ReadsAs holds wrong sure at before now failed (Err e) = LacksFile wrong sure at before now failed e
+
+-- the whole text of a file, which is not too long
+abbrev pub IsShortText : Option (List ℕ) → List ℕ → Type 0
+IsShortText held text = IsFront held (file_limit + 1) text × (length text ≤ file_limit)
+
+-- a text of which no more is known than that it is too long
+abbrev pub IsWrongText : Option (List ℕ) → Refusal → Type 0
+IsWrongText held refusal.TooLong = Holds held (λ text. file_limit < length text)
+IsWrongText held refusal.NotAccepted = ⊥
+IsWrongText held refusal.InterfaceTooLong = ⊥
+
+-- a library with its interface
+pub record IsLibraryOf (held : Option (List ℕ)) (library : List ℕ) (found : AcceptedLibrary) : Type 0 where
+  pub holds : HoldsLibrary held library found.functions
+  pub interface_is : found.interface ≡ interface_of library found.functions
+  pub accepted : IsAcceptedInterface found.interface
+
+-- the functions that were removed, where there are any
+pub record LacksNames (held : List ℕ → Option (List ℕ)) (job : Job) (names : List (List ℕ)) : Type 0 where
+  pub old : List Function
+  pub new : List Function
+  pub breaks : Breaks held job old new
+  pub names_are : names ≡ removed (interface_of job.library old) (interface_of job.library new)
+
+-- both libraries pass: the old one's interface and the new one's functions
+pub record HasLibraries (held : List ℕ → Option (List ℕ)) (job : Job) (found : Libraries) : Type 0 where
+  pub old : List Function
+  pub passes : Passes held job old found.functions
+  pub interface_is : found.interface ≡ interface_of job.library old
+  pub accepted : IsAcceptedInterface found.interface
+
+-- all three files are accepted
+pub record HasAll (held : List ℕ → Option (List ℕ)) (job : Job) (found : Loaded) : Type 0 where
+  pub old : List Function
+  pub accepts : Accepts held job old found.libraries.functions found.client
+  pub interface_is : found.libraries.interface ≡ interface_of job.library old
+  pub accepted : IsAcceptedInterface found.libraries.interface
+
+module _ (held : List ℕ → Option (List ℕ)) (gets : List ℕ → Type 0) (job : Job) (before now : ℕ) (failed : Bool) where
+  -- why a job's files are not run
+  abbrev pub Stops : Stop → Type 0
+  Stops (stop.Refused at why) = (now ≡ before) × Refuses held job at why
+  Stops (stop.NotRead at) = Rose before now × (failed ≡ true) × Reaches held job at × (gets (name_of job at) → ⊥)
+  Stops (stop.Broken names) = (now ≡ before) × LacksNames held job names
+  Stops stop.Memory = now ≡ before
+
+  abbrev pub LoadsLibraries : Result Libraries Stop → Type 0
+  LoadsLibraries (Ok found) = (now ≡ before) × HasLibraries held job found
+  LoadsLibraries (Err e) = Stops e
+
+  abbrev pub LoadsAs : Result Loaded Stop → Type 0
+  LoadsAs (Ok found) = (now ≡ before) × HasAll held job found
+  LoadsAs (Err e) = Stops e
+
+-- what was loaded can be built: the client is the interface's, and the new library breaks no rule against it
+pub record Builds (loaded : Loaded) : Type 0 where
+  pub interface : IsAcceptedInterface loaded.libraries.interface
+  pub client : IsAcceptedClient loaded.libraries.interface loaded.client
+  pub library : IsAcceptedLibrary loaded.libraries.interface.name loaded.libraries.functions
+  pub keeps : BreaksNoRule loaded.libraries.interface (interface_of loaded.libraries.interface.name loaded.libraries.functions)
+
+-- the run of the client's source with the new library's functions and the old bodies that it copied
+abbrev pub run_with : Loaded → ℕ → Ran
+run_with loaded ticks = run_of (record { old = loaded.libraries.interface.functions; new = loaded.libraries.functions }) loaded.client.prints ticks
+
+-- the image does what the client's source does, for every number of ticks
+abbrev pub IsBuiltFrom : Loaded → List MachineFunction → Type 0
+IsBuiltFrom loaded image = (ticks : ℕ) → DoesAs image ticks (run_with loaded ticks)

@@ -1,0 +1,114 @@
+//! The files of a job, read in their order.
+
+ghost use Rattle.std.specs.Prelude.{◌≡◌, ◌+◌, List, ℕ};
+ghost use Rattle.evo_tree.specs.Accepted.{IsAcceptedInterface};
+ghost use Rattle.evo_iface.specs.Text.{IsPlain};
+ghost use Rattle.evo_driver.specs.Files.{Holds, HoldsClient, IsWrongLibrary, IsWrongClient};
+ghost use Rattle.evo_driver.specs.Loading.{ReadsAs, IsShortText, IsWrongText, IsLibraryOf, LoadsLibraries, LoadsAs};
+
+use crate::stop::{Refusal, Stop, Which};
+use evo_base::{Files, GetFault, List, Name};
+use evo_front::{AcceptedLibrary, FILE_LIMIT, LibraryFault, accept_client, accept_library};
+use evo_rules::breaks;
+use evo_tree::{Client, Function, Interface};
+use evo_words::Job;
+use std::alloc::Global;
+
+/// The old library's interface, and the new library's functions.
+#[derive(Debug, Drop)]
+pub struct Libraries {
+    pub interface: Interface,
+    pub functions: List<Function>,
+}
+
+/// What the files of a job hold.
+#[derive(Debug, Drop)]
+pub struct Loaded {
+    pub libraries: Libraries,
+    pub client: Client,
+}
+
+fn text_of<F: Files>(alloc: Global, files: &mut F, name: &Name, at: Which) -> Result<Vec<u8>, Stop>
+    ensures reads { ReadsAs (λ v. IsShortText (F.held files.old name.now) v.items) (IsWrongText (F.held files.old name.now))
+        (F.gets files.old name.now) at (F.faults files.old) (F.faults files.new) (F.failed files.new) result }
+    ensures same { (other : List ℕ) → F.held files.new other ≡ F.held files.old other }
+    ensures gets { (other : List ℕ) → F.gets files.old other → F.gets files.new other }
+{
+    match files.get(alloc, name, FILE_LIMIT as u64) {
+        Ok(text) if text.len() > FILE_LIMIT => Err(Stop::Refused(at, Refusal::TooLong)),
+        Ok(text) => Ok(text),
+        Err(GetFault::Failed) => Err(Stop::NotRead(at)),
+        Err(GetFault::Memory) => Err(Stop::Memory),
+    }
+}
+
+fn get_library<F: Files>(
+    alloc: Global,
+    files: &mut F,
+    library: &Name,
+    name: &Name,
+    at: Which,
+) -> Result<AcceptedLibrary, Stop>
+    requires { IsPlain 32 library.now }
+    ensures reads { ReadsAs (IsLibraryOf (F.held files.old name.now) library.now) (λ why. Holds (F.held files.old name.now) (IsWrongLibrary library.now why))
+        (F.gets files.old name.now) at (F.faults files.old) (F.faults files.new) (F.failed files.new) result }
+    ensures same { (other : List ℕ) → F.held files.new other ≡ F.held files.old other }
+    ensures gets { (other : List ℕ) → F.gets files.old other → F.gets files.new other }
+{
+    let text = text_of(alloc, files, name, at)?;
+    match accept_library(alloc, library, &text) {
+        Ok(found) => Ok(found),
+        Err(LibraryFault::NotAccepted) => Err(Stop::Refused(at, Refusal::NotAccepted)),
+        Err(LibraryFault::InterfaceTooLong) => Err(Stop::Refused(at, Refusal::InterfaceTooLong)),
+        Err(LibraryFault::Memory) => Err(Stop::Memory),
+    }
+}
+
+fn get_client<F: Files>(
+    alloc: Global,
+    files: &mut F,
+    interface: &Interface,
+    name: &Name,
+) -> Result<Client, Stop>
+    requires { IsAcceptedInterface interface.now }
+    ensures reads { ReadsAs (HoldsClient (F.held files.old name.now) interface.now) (λ why. Holds (F.held files.old name.now) (IsWrongClient interface.now why))
+        (F.gets files.old name.now) Which.Client (F.faults files.old) (F.faults files.new) (F.failed files.new) result }
+    ensures same { (other : List ℕ) → F.held files.new other ≡ F.held files.old other }
+    ensures gets { (other : List ℕ) → F.gets files.old other → F.gets files.new other }
+{
+    let text = text_of(alloc, files, name, Which::Client)?;
+    match accept_client(alloc, interface, &text) {
+        Ok(Some(client)) => Ok(client),
+        Ok(None) => Err(Stop::Refused(Which::Client, Refusal::NotAccepted)),
+        Err(_) => Err(Stop::Memory),
+    }
+}
+
+// Reads both libraries, and tries the rules on their interfaces.
+fn load_libraries<F: Files>(alloc: Global, job: &Job, files: &mut F) -> Result<Libraries, Stop>
+    requires { IsPlain 32 job.now.library }
+    ensures loads { LoadsLibraries (F.held files.old) (F.gets files.old) job.now (F.faults files.old) (F.faults files.new) (F.failed files.new) result }
+    ensures same { (other : List ℕ) → F.held files.new other ≡ F.held files.old other }
+    ensures gets { (other : List ℕ) → F.gets files.old other → F.gets files.new other }
+{
+    let old = get_library(alloc, files, &job.library, &job.old, Which::Old)?;
+    let new = get_library(alloc, files, &job.library, &job.new, Which::New)?;
+    let removed = breaks(alloc, &old.interface, &new.interface)?;
+    if !removed.is_empty() {
+        return Err(Stop::Broken(List::from_vec(removed)));
+    }
+    Ok(Libraries {
+        interface: old.interface,
+        functions: new.functions,
+    })
+}
+
+/// Reads the files of a job in their order, and tries the rules before the client is read.
+pub fn load<F: Files>(alloc: Global, job: &Job, files: &mut F) -> Result<Loaded, Stop>
+    requires { IsPlain 32 job.now.library }
+    ensures { LoadsAs (F.held files.old) (F.gets files.old) job.now (F.faults files.old) (F.faults files.new) (F.failed files.new) result }
+{
+    let libraries = load_libraries(alloc, job, files)?;
+    let client = get_client(alloc, files, &libraries.interface, &job.client)?;
+    Ok(Loaded { libraries, client })
+}

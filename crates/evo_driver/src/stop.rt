@@ -1,0 +1,42 @@
+ghost use Rattle.std.specs.Prelude.{◌≡◌};
+ghost use Rattle.evo_driver.specs.declared.stop.Stop.TheVariants.{Memory};
+
+use evo_base::{List, Name};
+use std::alloc::AllocError;
+
+/// One of the files of a job.
+#[derive(Clone, Copy, Debug, PartialEq, Eq)]
+pub enum Which {
+    Old,
+    New,
+    Client,
+}
+
+/// What is wrong with a file that was read.
+#[derive(Clone, Copy, Debug, PartialEq, Eq)]
+pub enum Refusal {
+    /// It has too many bytes.
+    TooLong,
+    /// It is not accepted.
+    NotAccepted,
+    /// It is accepted as a library, and the text of its interface has too many bytes.
+    InterfaceTooLong,
+}
+
+/// Why a job's files are not run.
+#[derive(Debug, Drop)]
+pub enum Stop {
+    NotRead(Which),
+    Refused(Which, Refusal),
+    /// Both libraries are accepted, and the new one lacks these functions.
+    Broken(List<Name>),
+    Memory,
+}
+
+impl From<AllocError> for Stop {
+    ghost from_gives = { λ _ e. e ≡ Memory };
+
+    fn from(_: AllocError) -> Self {
+        Stop::Memory
+    }
+}

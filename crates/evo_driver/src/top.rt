@@ -1,0 +1,59 @@
+//! The top call.
+
+ghost use Rattle.std.specs.Prelude.{◌≡◌, ◌⊎◌, List, ℕ, length};
+ghost use Rattle.evo_base.specs.Content.{Appends};
+ghost use Rattle.evo_driver.specs.Top.{OnAnswer, Means, Leaves, Fails};
+ghost use Rattle.evo_driver.specs.Answer.{Answer};
+
+use crate::job::perform;
+use crate::reply::Halt;
+use crate::status::Status;
+use evo_base::{Files, Name, Sink};
+use evo_machine::Machine;
+use std::alloc::Global;
+
+/// Does what the words ask for, over these files and sinks.
+///
+/// The words are those behind the program's name. What a client prints and the report on broken rules
+/// go to `out`, a line as one piece; a text on what went wrong goes to `err`, as one piece. After
+/// `Done` and `OutOfTicks` the machine that ran is left in `bench`, and else nothing is. `Memory` may
+/// come at any point.
+pub fn swevo<F: Files, O: Sink, E: Sink>(
+    alloc: Global,
+    words: &[Name],
+    files: &mut F,
+    out: &mut O,
+    err: &mut E,
+    bench: &mut Option<Machine>,
+) -> Status
+    // The answer is the one that the words and the files ask for: its bytes, its status, and no failed write.
+    ensures answer { OnAnswer result ((a : Answer)
+        × Means words.now (F.held files.old) (F.gets files.old) (F.faults files.old) (F.faults files.new) (F.failed files.new) a
+        × (result ≡ a.status)
+        × Appends (O.written out.old) (O.written out.new) a.out × (O.faults out.new ≡ O.faults out.old)
+        × Appends (E.written err.old) (E.written err.new) a.err × (E.faults err.new ≡ E.faults err.old)) }
+
+    // A failed write is a sink's that does not take all that the answer has for it, and the last call on that sink.
+    // Where it is that of `out`, nothing is written to `err`.
+    ensures unwritten { result ≡ Status.NotWritten → (a : Answer)
+        × Means words.now (F.held files.old) (F.gets files.old) (F.faults files.old) (F.faults files.new) (F.failed files.new) a
+        × ((Fails (O.faults out.old) (O.faults out.new) (O.takes out.old (length a.out)) (O.failed out.new) × (err.new ≡ err.old))
+        ⊎ (Appends (O.written out.old) (O.written out.new) a.out × (O.faults out.new ≡ O.faults out.old)
+        × Fails (E.faults err.old) (E.faults err.new) (E.takes err.old (length a.err)) (E.failed err.new))) }
+
+    // The finished machine is left, or nothing is.
+    ensures bench { Leaves result bench.new }
+{
+    *bench = None;
+    match perform(alloc, words, files, out) {
+        Ok(reply) => {
+            if !reply.text.is_empty() && err.write(&reply.text).is_err() {
+                return Status::NotWritten;
+            }
+            *bench = reply.bench;
+            reply.status
+        }
+        Err(Halt::NotWritten) => Status::NotWritten,
+        Err(Halt::Memory) => Status::Memory,
+    }
+}

@@ -1,0 +1,11 @@
+//! What the definitions of acceptance say by themselves.
+
+ghost use Rattle.std.specs.Prelude.{ℕ, List};
+ghost use Rattle.evo_tree.specs.declared.Function.{Function};
+ghost use Rattle.evo_tree.specs.Interface.{interface_of};
+ghost use Rattle.evo_tree.specs.Accepted.{IsAcceptedLibrary, IsAcceptedInterface};
+
+/// The interface of a library that is accepted is accepted.
+pub fn interfaces_are_accepted()
+    ensures { (library : List ℕ) (functions : List Function) → IsAcceptedLibrary library functions → IsAcceptedInterface (interface_of library functions) }
+{}
