@@ -1,8 +1,9 @@
 //! Whether a new release of a library still serves a client that was built against the old one.
 #![tactic(auto)]
 
-use evo_base::{DiskFiles, Name, StdSink};
+use evo_base::{DiskFiles, Files, Name, Sink, StdSink};
 use evo_driver::{Status, swevo};
+use evo_machine::Machine;
 use std::alloc::{AllocError, Global};
 use std::io::ErrorKind;
 use std::process::ExitCode;
@@ -27,6 +28,19 @@ fn words_of<R: rt::Runtime<A = Global>>(system: &R) -> Result<Vec<Name>, AllocEr
     Ok(words)
 }
 
+// The top call, with the machine that it leaves. What it promises is left out here, since nothing more is said of it.
+fn run<F: Files, O: Sink, E: Sink>(
+    alloc: Global,
+    words: &[Name],
+    files: &mut F,
+    out: &mut O,
+    err: &mut E,
+) -> (Status, Option<Machine>) {
+    let mut bench = None;
+    let status = swevo(alloc, words, files, out, err, &mut bench);
+    (status, bench)
+}
+
 fn main(rt: HostRuntime) -> ExitCode {
     let alloc = rt.alloc();
     let Ok(words) = words_of(&rt) else {
@@ -35,7 +49,6 @@ fn main(rt: HostRuntime) -> ExitCode {
     let mut files = DiskFiles::new(&rt);
     let mut out = StdSink::new(rt.stdout());
     let mut err = StdSink::new(rt.stderr());
-    let mut bench = None;
-    let status = swevo(alloc, &words, &mut files, &mut out, &mut err, &mut bench);
+    let (status, _) = run(alloc, &words, &mut files, &mut out, &mut err);
     ExitCode::from(status.code())
 }

@@ -4,11 +4,12 @@
 //! library, the new one and the client (`-` where the file is not there), the status, what is on
 //! `out` and on `err`, and the numbers of the calls on the files, on `out` and on `err` that fail.
 
+use crate::run;
 use evo_base::{
     DiskFiles, Failed, Files, GetFault, Key, List, Mark, MemFiles, MemSink, Name, Part,
     ProtocolName, Sink, StdSink,
 };
-use evo_driver::{Status, swevo};
+use evo_driver::Status;
 use evo_machine::{End, Machine};
 use std::alloc::Global;
 use std::fs;
@@ -248,85 +249,32 @@ fn words(alloc: Global, line: &str) -> Result<Vec<Name>, Fail> {
     Ok(words)
 }
 
-// What a job is done over.
-#[derive(Drop)]
-struct World {
-    files: MemFiles,
-    out: MemSink,
-    err: MemSink,
+// A text with so many spaces behind it.
+fn spaced(alloc: Global, text: &str, count: usize) -> Result<String, Fail> {
+    let mut spaced = String::new(alloc);
+    spaced.push_str(text)?;
+    spaced.push_str(&" ".repeat(alloc, count)?)?;
+    Ok(spaced)
 }
 
-impl World {
-    fn new(alloc: Global, room: u64) -> Result<World, Fail> {
-        Ok(World {
-            files: MemFiles::new(alloc)?,
-            out: MemSink::new(alloc, room)?,
-            err: MemSink::new(alloc, 100)?,
-        })
-    }
-
-    // Prepares a file, where there is a text for it.
-    fn add(&mut self, alloc: Global, at: &str, text: &str) -> Result<(), Fail> {
-        if text != "-" {
-            let text = Vec::from_slice(alloc, text.as_bytes())?;
-            self.files.add(name(alloc, at)?, text, 0)?;
+// The files of a job, where there is a text for them. The call with this number fails.
+fn files_of(alloc: Global, texts: [&str; 3], fails: u64) -> Result<MemFiles, Fail> {
+    let mut files = MemFiles::new(alloc)?;
+    for (i, at) in ["old.swift", "new.swift", "main.swift"].iter().enumerate() {
+        if texts[i] != "-" {
+            let text = Vec::from_slice(alloc, texts[i].as_bytes())?;
+            files.add(name(alloc, at)?, text, 0)?;
         }
-        Ok(())
     }
+    files.fail(fails)?;
+    Ok(files)
+}
 
-    // Prepares a file with a text and so many spaces behind it.
-    fn add_spaced(
-        &mut self,
-        alloc: Global,
-        at: &str,
-        text: &str,
-        count: usize,
-    ) -> Result<(), Fail> {
-        let mut bytes = Vec::from_slice(alloc, text.as_bytes())?;
-        bytes.append(&mut b" ".repeat(alloc, count)?)?;
-        self.files.add(name(alloc, at)?, bytes, 0)?;
-        Ok(())
-    }
-
-    fn add_all(&mut self, alloc: Global, old: &str, new: &str, client: &str) -> Result<(), Fail> {
-        self.add(alloc, "old.swift", old)?;
-        self.add(alloc, "new.swift", new)?;
-        self.add(alloc, "main.swift", client)
-    }
-
-    // Lists the numbers of the calls that fail. No call has the number 0.
-    fn fail(&mut self, get: u64, out: u64, err: u64) -> Result<(), Fail> {
-        self.files.fail(get)?;
-        self.out.fail(out)?;
-        self.err.fail(err)?;
-        Ok(())
-    }
-
-    // Does what the words ask for, and looks at what came of it.
-    fn check(
-        &mut self,
-        rt: &impl Abort,
-        alloc: Global,
-        line: &str,
-        (code, out, err): (&str, &str, &str),
-    ) -> Result<(), Fail> {
-        let words = words(alloc, line)?;
-        let mut bench = None;
-        let status = swevo(
-            alloc,
-            &words,
-            &mut self.files,
-            &mut self.out,
-            &mut self.err,
-            &mut bench,
-        );
-        assert_eq!(rt; str::from_utf8(self.err.bytes())?, err, "err of {line}");
-        assert_eq!(rt; str::from_utf8(self.out.bytes())?, out, "out of {line}");
-        let number = format!(in alloc; "{}", status.code())?;
-        assert_eq!(rt; number.as_str(), code, "status of {line}");
-        assert_eq!(rt; end_of(&bench), end_for(status), "machine of {line}");
-        Ok(())
-    }
+// A sink with so much room. The call with this number fails.
+fn sink_of(alloc: Global, room: u64, fails: u64) -> Result<MemSink, Fail> {
+    let mut sink = MemSink::new(alloc, room)?;
+    sink.fail(fails)?;
+    Ok(sink)
 }
 
 // How the run of the machine ended that a job left, where it left one.
@@ -346,6 +294,39 @@ fn end_for(status: Status) -> Option<Option<End>> {
     }
 }
 
+// Does what a line of words asks for, over the texts of the three files, with so much room on `out`, and looks
+// at what came of it. The calls on the files, on `out` and on `err` with these numbers fail; no call has the
+// number 0.
+fn check(
+    rt: &impl Abort,
+    alloc: Global,
+    line: &str,
+    texts: [&str; 3],
+    (room, fails): (u64, [u64; 3]),
+    (code, out, err): (&str, &str, &str),
+) -> Result<(), Fail> {
+    let words = words(alloc, line)?;
+    let mut files = files_of(alloc, texts, fails[0])?;
+    let mut out_sink = sink_of(alloc, room, fails[1])?;
+    let mut err_sink = sink_of(alloc, 100, fails[2])?;
+    let (status, bench) = run(alloc, &words, &mut files, &mut out_sink, &mut err_sink);
+    assert_eq!(rt; err_sink.bytes(), err.as_bytes(), "err of {line}");
+    assert_eq!(rt; out_sink.bytes(), out.as_bytes(), "out of {line}");
+    assert_eq!(rt; Ok(status.code()), code.parse::<u8>(), "status of {line}");
+    assert_eq!(rt; end_of(&bench), end_for(status), "machine of {line}");
+    Ok(())
+}
+
+// As `check`, where nothing fails.
+fn check_job(
+    rt: &impl Abort,
+    alloc: Global,
+    texts: [&str; 3],
+    expected: (&str, &str, &str),
+) -> Result<(), Fail> {
+    check(rt, alloc, JOB, texts, (100, [0; 3]), expected)
+}
+
 fn column(row: &str, at: usize) -> &str {
     row.split('|').nth(at).unwrap_or("")
 }
@@ -356,11 +337,10 @@ fn number(row: &str, at: usize) -> u64 {
 
 fn check_table(rt: &impl Abort, alloc: Global, table: &str) -> Result<(), Fail> {
     for row in table.split('~') {
-        let mut world = World::new(alloc, 100)?;
-        world.add_all(alloc, column(row, 1), column(row, 2), column(row, 3))?;
-        world.fail(number(row, 7), number(row, 8), number(row, 9))?;
+        let texts = [column(row, 1), column(row, 2), column(row, 3)];
+        let fails = [number(row, 7), number(row, 8), number(row, 9)];
         let expected = (column(row, 4), column(row, 5), column(row, 6));
-        world.check(rt, alloc, column(row, 0), expected)?;
+        check(rt, alloc, column(row, 0), texts, (100, fails), expected)?;
     }
     Ok(())
 }
@@ -394,32 +374,38 @@ fn bodies_that_are_run(rt: HostRuntime) -> Result<(), Fail> {
 fn calls_that_fail(rt: HostRuntime) -> Result<(), Fail> {
     let alloc = rt.alloc();
     check_table(&rt, alloc, FAILING)?;
-    let mut world = World::new(alloc, 5)?;
-    world.add_all(alloc, ONE, TWO, "import Lib\nprint(12)\nprint(345)")?;
-    world.check(&rt, alloc, JOB, ("7", "12\n34", ""))
+    let texts = [ONE, TWO, "import Lib\nprint(12)\nprint(345)"];
+    check(&rt, alloc, JOB, texts, (5, [0; 3]), ("7", "12\n34", ""))
 }
 
 #[test]
 fn clients_that_are_not_built(rt: HostRuntime) -> Result<(), Fail> {
-    let alloc = rt.alloc();
     for client in CLIENTS.split('~') {
-        let mut world = World::new(alloc, 100)?;
-        world.add_all(alloc, ONE, TWO, client)?;
-        world.check(&rt, alloc, JOB, ("4", "", CLIENT_REFUSED))?;
+        check_job(
+            &rt,
+            rt.alloc(),
+            [ONE, TWO, client],
+            ("4", "", CLIENT_REFUSED),
+        )?;
     }
     Ok(())
 }
 
 #[test]
 fn libraries_that_are_not_built(rt: HostRuntime) -> Result<(), Fail> {
-    let alloc = rt.alloc();
     for library in LIBRARIES.split('~') {
-        let mut world = World::new(alloc, 100)?;
-        world.add_all(alloc, library, library, CLIENT)?;
-        world.check(&rt, alloc, JOB, ("4", "", OLD_REFUSED))?;
-        let mut world = World::new(alloc, 100)?;
-        world.add_all(alloc, "", library, CLIENT)?;
-        world.check(&rt, alloc, JOB, ("4", "", NEW_REFUSED))?;
+        check_job(
+            &rt,
+            rt.alloc(),
+            [library, library, CLIENT],
+            ("4", "", OLD_REFUSED),
+        )?;
+        check_job(
+            &rt,
+            rt.alloc(),
+            ["", library, CLIENT],
+            ("4", "", NEW_REFUSED),
+        )?;
     }
     Ok(())
 }
@@ -438,19 +424,14 @@ fn numbers_of_functions(rt: HostRuntime) -> Result<(), Fail> {
     let alloc = rt.alloc();
     let most = library_of(alloc, 4096)?;
     let more = library_of(alloc, 4097)?;
+    let (most, more) = (most.as_str(), more.as_str());
     let client = "import Lib\nprint(f0(), f4095())";
-    let mut world = World::new(alloc, 100)?;
-    world.add_all(alloc, &most, &most, client)?;
-    world.check(&rt, alloc, JOB, ("0", "0 4095\n", ""))?;
-    let mut world = World::new(alloc, 100)?;
-    world.add_all(alloc, &more, &more, client)?;
-    world.check(&rt, alloc, JOB, ("4", "", OLD_REFUSED))?;
-    let mut world = World::new(alloc, 100)?;
-    world.add_all(alloc, &most, &more, client)?;
-    world.check(&rt, alloc, JOB, ("4", "", NEW_REFUSED))
+    check_job(&rt, alloc, [most, most, client], ("0", "0 4095\n", ""))?;
+    check_job(&rt, alloc, [more, more, client], ("4", "", OLD_REFUSED))?;
+    check_job(&rt, alloc, [most, more, client], ("4", "", NEW_REFUSED))
 }
 
-// Tries old, new and client with so many spaces behind them.
+// Tries the first run with so many spaces behind the texts of its files.
 fn check_spaced(
     rt: &impl Abort,
     alloc: Global,
@@ -458,11 +439,11 @@ fn check_spaced(
     counts: [usize; 3],
     expected: (&str, &str, &str),
 ) -> Result<(), Fail> {
-    let mut world = World::new(alloc, 100)?;
-    world.add_spaced(alloc, "old.swift", texts[0], counts[0])?;
-    world.add_spaced(alloc, "new.swift", texts[1], counts[1])?;
-    world.add_spaced(alloc, "main.swift", texts[2], counts[2])?;
-    world.check(rt, alloc, JOB, expected)
+    let old = spaced(alloc, texts[0], counts[0])?;
+    let new = spaced(alloc, texts[1], counts[1])?;
+    let client = spaced(alloc, texts[2], counts[2])?;
+    let texts = [old.as_str(), new.as_str(), client.as_str()];
+    check_job(rt, alloc, texts, expected)
 }
 
 // The most bytes of a file are 1,048,576.
@@ -475,35 +456,26 @@ fn lengths_of_files(rt: HostRuntime) -> Result<(), Fail> {
         1_048_576 - TWO.len(),
         1_048_576 - CLIENT.len(),
     ];
-    check_spaced(&rt, alloc, all, rest, ("0", "2\n", ""))?;
     let full = [1_048_576; 3];
+    check_spaced(&rt, alloc, all, rest, ("0", "2\n", ""))?;
     check_spaced(&rt, alloc, [""; 3], full, ("4", "", CLIENT_REFUSED))?;
-    check_spaced(
-        &rt,
-        alloc,
-        ["", TWO, CLIENT],
-        [1_048_577, 0, 0],
-        ("11", "", OLD_TOO_LONG),
-    )?;
-    check_spaced(
-        &rt,
-        alloc,
-        [ONE, "", CLIENT],
-        [0, 1_048_577, 0],
-        ("11", "", NEW_TOO_LONG),
-    )?;
-    check_spaced(
-        &rt,
-        alloc,
-        [ONE, TWO, ""],
-        [0, 0, 1_048_577],
-        ("11", "", CLIENT_TOO_LONG),
-    )?;
+    let expected = ("11", "", OLD_TOO_LONG);
+    check_spaced(&rt, alloc, ["", TWO, CLIENT], [1_048_577, 0, 0], expected)?;
+    let expected = ("11", "", NEW_TOO_LONG);
+    check_spaced(&rt, alloc, [ONE, "", CLIENT], [0, 1_048_577, 0], expected)?;
+    let expected = ("11", "", CLIENT_TOO_LONG);
+    check_spaced(&rt, alloc, [ONE, TWO, ""], [0, 0, 1_048_577], expected)?;
     check_spaced(&rt, alloc, all, [2_000_000; 3], ("11", "", OLD_TOO_LONG))?;
-    let mut world = World::new(alloc, 100)?;
-    world.add_spaced(alloc, "old.swift", "", 1_048_577)?;
-    world.fail(0, 0, 1)?;
-    world.check(&rt, alloc, JOB, ("7", "", "old.swift: f"))
+    let more = spaced(alloc, "", 1_048_577)?;
+    let texts = [more.as_str(), TWO, CLIENT];
+    check(
+        &rt,
+        alloc,
+        JOB,
+        texts,
+        (100, [0, 0, 1]),
+        ("7", "", "old.swift: f"),
+    )
 }
 
 // The most bytes of an interface are 16,777,216. The functions of a file of 1,048,576 bytes, which are 4,096 at
@@ -519,9 +491,7 @@ fn lengths_of_interfaces(rt: HostRuntime) -> Result<(), Fail> {
         let module = b"a".repeat(alloc, count)?;
         let module = str::from_utf8(&module)?;
         let line = format!(in alloc; "evolve {module} old.swift new.swift main.swift 10")?;
-        let mut world = World::new(alloc, 100)?;
-        world.add_all(alloc, "", "", CLIENT)?;
-        world.check(&rt, alloc, line.as_str(), expected)?;
+        check(&rt, alloc, &line, ["", "", CLIENT], (100, [0; 3]), expected)?;
     }
     Ok(())
 }
@@ -581,16 +551,15 @@ fn a_job_on_disk(rt: HostRuntime) -> Result<(), Fail> {
     let mut told = Vec::new(alloc);
     let mut out = StdSink::new(&mut text);
     let mut err = StdSink::new(&mut told);
-    let mut bench = None;
     let words = words(
         alloc,
         "evolve Lib swevo_job_old swevo_job_new swevo_job_main 2",
     )?;
-    let status = swevo(alloc, &words, &mut files, &mut out, &mut err, &mut bench);
+    let (status, _) = run(alloc, &words, &mut files, &mut out, &mut err);
     for at in ["swevo_job_old", "swevo_job_new", "swevo_job_main"] {
         fs::remove_file(&rt, at)?;
     }
-    let later = swevo(alloc, &words, &mut files, &mut out, &mut err, &mut bench);
+    let (later, _) = run(alloc, &words, &mut files, &mut out, &mut err);
     assert_eq!(rt; status.code(), 0);
     assert_eq!(rt; later.code(), 6);
     assert_eq!(rt; text.as_slice(), b"2\n".as_slice());
