@@ -72,6 +72,7 @@ evolve Lib old.swift old.swift main.swift 2|public func f() -> Int { return 1 }|
 
 // Files that are there, are accepted, and break a rule or none.
 const FILES: &str = "\
+evolve Lib old.swift new.swift main.swift 10|public func f() -> Int { return 1 }||import Lib\nprint(f())|5|E1 old Lib.f() new Lib: declaration removed\n|~\
 evolve Lib old.swift new.swift main.swift 10|-|-|-|6||cannot read old.swift\n~\
 evolve Lib old.swift new.swift main.swift 10|public func f() -> Int { return 1 }|-|-|6||cannot read new.swift\n~\
 evolve Lib old.swift new.swift main.swift 10|public func f() -> Int { return 1 }|public func f() -> Int { return 2 }|-|6||cannot read main.swift\n~\
@@ -93,6 +94,8 @@ evolve Lib old.swift new.swift main.swift 10|||import Lib|0||";
 
 // Clients that are accepted, and what they print.
 const RUNS: &str = "\
+evolve Lib old.swift new.swift main.swift 0|||import Lib|2||out of ticks\n~\
+evolve Lib old.swift new.swift main.swift 1|||import Lib|0||~\
 evolve Lib old.swift new.swift main.swift 0|public func f() -> Int { return 1 }|public func f() -> Int { return 2 }|import Lib|2||out of ticks\n~\
 evolve Lib old.swift new.swift main.swift 1|public func f() -> Int { return 1 }|public func f() -> Int { return 2 }|import Lib|0||~\
 evolve Lib old.swift new.swift main.swift 1|public func f() -> Int { return 1 }|public func f() -> Int { return 2 }|\n import Lib\n\n|0||~\
