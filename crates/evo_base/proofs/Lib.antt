@@ -1,3 +1,4 @@
+pub mod KeywordLemmas
 pub mod Names
 pub mod Counting
 pub mod Loops

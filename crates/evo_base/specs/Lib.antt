@@ -2,6 +2,7 @@ pub mod Causes
 pub mod Content
 pub mod FaultText
 pub mod FilesState
+pub mod Keywords
 pub mod Laws
 pub mod Names
 pub mod Plan

@@ -3,12 +3,18 @@ use crate::Place;
 /// What a token is.
 #[derive(Clone, Copy, Debug, PartialEq, Eq)]
 pub enum TokenKind {
-    /// An ASCII identifier or a keyword; `_` alone is one too.
-    Word,
-    /// Decimal digits alone.
+    /// An identifier of Unicode, or one that begins with `_`.
+    Identifier,
+    /// `_` alone.
+    Underscore,
+    /// An identifier that names nothing.
+    Keyword,
+    /// Digits of one base, with `_` among them.
     Integer,
-    /// `->`
-    Arrow,
+    /// Characters between two `"` on one line.
+    String,
+    /// A run of operator characters.
+    Operator,
     /// `(`
     OpenParenthesis,
     /// `)`
@@ -19,12 +25,16 @@ pub enum TokenKind {
     CloseBrace,
     /// `,`
     Comma,
-    /// `.`
-    Dot,
     /// `;`
     Semicolon,
+    /// `:`
+    Colon,
+    /// `.`
+    Dot,
     /// `@`
     At,
+    /// `#`
+    Hash,
 }
 
 /// A token of a source text. Its own text is the slice of `len` bytes from the byte `start` on, where the first byte is 0.

@@ -1,71 +1,95 @@
--- What stands at the front of a cut text, and that a text has one cut.
-use Rattle.std.proofs.Common.{◌≡◌, ℕ, ◌+◌, Bool, true, false, List, [], ◌∷◌, drop, Option, Some, None, refl, sym, ◌∙◌, ap, subst, arith, rules, inl, inr}
-use Rattle.std.specs.Prelude.{◌==◌, ◌||◌, ◌⊎◌}
+-- That a text has one cut or one fault, and how a cut goes on from its front.
+use Rattle.std.proofs.Common.{◌≡◌, ℕ, List, [], ◌∷◌, ◌++◌, take, drop, Option, Some, None, refl, sym, ◌∙◌, ap, subst, arith}
+use Rattle.std.specs.Str.{IsUtf8, chars}
+use Rattle.std.specs.Str.Lossy.{utf8_valid_len}
+use Rattle.std.proofs.lemmas.Str.{utf8_valid_len-IsUtf8}
+use Rattle.std.proofs.lemmas.List.{take_all}
 use Rattle.evo_base.specs.declared.place.Place.{Place}
-use Rattle.evo_base.specs.declared.token.TokenKind.{TokenKind}
+use Rattle.evo_base.specs.declared.fault_kind.FaultKind.{FaultKind}
 use Rattle.evo_base.specs.declared.token.Token.{Token}
-use Rattle.evo_lex.specs.Cut.{CutFrom, first_of, is_white, along, behind}
+use Rattle.evo_lex.specs.declared.spot.Spot.{Spot}
+use Rattle.evo_lex.specs.declared.front.Front.{Front}
+use Rattle.evo_lex.specs.declared.front.Front.TheVariants as front
+use Rattle.evo_lex.specs.Front.{front_of}
+use Rattle.evo_lex.specs.Cut.{Cut, CutFrom, BadFrom, IsFault, origin, beyond, tokens_of, token_between, front_chars}
 use Rattle.evo_lex.specs.Cut.CutFrom.{ended, white, token}
+use Rattle.evo_lex.specs.Cut.BadFrom.{bad, past}
+use Rattle.evo_lex.specs.Cut.IsFault.{bad_token, not_utf8}
 
-abbrev Front : Type 0
-Front = Option (TokenKind × ℕ)
+front_nil : front_of [] ≡ None
+unfolding front_of
+front_nil = refl
 
-or_true : (a b : Bool) → (a || b) ≡ true → (a ≡ true) ⊎ (b ≡ true)
-or_true true b e = inl refl
-or_true false b e = inr e
+none_is : (p : Front × ℕ) (f : Option (Front × ℕ)) → f ≡ None → f ≡ Some p → ⊥
+none_is p f a b = let e = sym a ∙ b in absurd cc
 
-white_none : (c : ℕ) (text : List ℕ) → is_white c ≡ true → first_of (c ∷ text) ≡ None
-white_none c text e =
-    let at : (d : ℕ) → (c == d) ≡ true → first_of (d ∷ text) ≡ None → first_of (c ∷ text) ≡ None
-    = λ d is none. let same : c ≡ d = grind (arith, rules) in subst (λ (x : ℕ). first_of (x ∷ text) ≡ None) (sym same) none in
-    elim (or_true (((c == 32) || (c == 9)) || (c == 10)) (c == 13) e) [
-      | inr is ↦ at 13 is refl
-      | inl e' ↦ elim (or_true ((c == 32) || (c == 9)) (c == 10) e') [
-        | inr is ↦ at 10 is refl
-        | inl e'' ↦ elim (or_true (c == 32) (c == 9) e'') [ inl is ↦ at 32 is refl | inr is ↦ at 9 is refl ]
-      ]
-    ]
-
-none_is : (k : TokenKind) (n : ℕ) (f : Front) → f ≡ None → f ≡ Some (k, n) → ⊥
-none_is k n f a b = let e = sym a ∙ b in absurd cc
-
-pair_is : (p q : TokenKind × ℕ) → Some p ≡ Some q → p ≡ q
+pair_is : (p q : Front × ℕ) → Some p ≡ Some q → p ≡ q
 pair_is p q e = cc
 
--- where a token stands at the front, the front is not white
-token_black : (c : ℕ) (text : List ℕ) (k : TokenKind) (n : ℕ) → first_of (c ∷ text) ≡ Some (k, n) → is_white c ≡ false
-token_black c text k n some =
-    let at : (b : Bool) → is_white c ≡ b → is_white c ≡ false
-    = elim [ true ↦ λ is. absurd (none_is k n (first_of (c ∷ text)) (white_none c text is) some) | false ↦ λ not. not ] in
-    at (is_white c) refl
+-- what is cut behind the front
+abbrev Behind : Spot → List ℕ → List Token → Front × ℕ → Type 0
+Behind s text tokens p = (rest : List Token) × (tokens ≡ tokens_of p.0 s (beyond (take p.1 text) s) ++ rest) × CutFrom (beyond (take p.1 text) s) (drop p.1 text) rest
 
-pub cut_white : {at c : ℕ} {place : Place} {text : List ℕ} {tokens : List Token} → is_white c ≡ true → CutFrom at place (c ∷ text) tokens →
-    CutFrom (at + 1) (behind c place) text tokens
-cut_white e (white w rest) = rest
-cut_white {c} {text} e (token {n} {k} f rest) = absurd (none_is k n _ (white_none c text e) f)
+-- a cut goes over the front
+pub cut_on : {s : Spot} {n : ℕ} {f : Front} {text : List ℕ} {rest : List Token} → front_of text ≡ Some (f, n) → CutFrom (beyond (take n text) s) (drop n text) rest →
+    CutFrom s text (tokens_of f s (beyond (take n text) s) ++ rest)
+cut_on {f = front.White} e rest = white e rest
+cut_on {f = front.Token k} e rest = token e rest
 
-pub cut_none : {at c : ℕ} {place : Place} {text : List ℕ} {tokens : List Token} → is_white c ≡ false → first_of (c ∷ text) ≡ None → CutFrom at place (c ∷ text) tokens → ⊥
-cut_none e none (white w rest) = absurd cc
-cut_none e none (token {n} {k} f rest) = none_is k n _ none f
+pub cut_behind : {s : Spot} {n : ℕ} {f : Front} {text : List ℕ} {tokens : List Token} → front_of text ≡ Some (f, n) → CutFrom s text tokens → Behind s text tokens (f, n)
+cut_behind e ended = absurd (none_is _ _ front_nil e)
+cut_behind {s} {n} {f} {text} e (white {n = m} {tokens} g rest) = subst (Behind s text tokens) (pair_is (front.White, m) (f, n) (sym g ∙ e)) (tokens, refl, rest)
+cut_behind {s} {n} {f} {text} e (token {n = m} {k} {tokens} g rest) =
+    subst (Behind s text (token_between k s (beyond (take m text) s) ∷ tokens)) (pair_is (front.Token k, m) (f, n) (sym g ∙ e)) (tokens, refl, rest)
 
-pub cut_token : {at c n : ℕ} {place : Place} {k : TokenKind} {text : List ℕ} {tokens : List Token} → is_white c ≡ false → first_of (c ∷ text) ≡ Some (k, n) →
-    CutFrom at place (c ∷ text) tokens →
-    (rest : List Token) × (tokens ≡ record { kind = k; place = place; start = at; len = n } ∷ rest) × CutFrom (at + n) (along n place) (drop n (c ∷ text)) rest
-cut_token e some (white w rest) = absurd cc
-cut_token {at} {c} {n} {place} {k} {text} e some (token {n = n'} {k = k'} {tokens = tokens'} f rest) =
-    let p : (k', n') ≡ (k, n) = pair_is (k', n') (k, n) (sym f ∙ some) in
-    subst (λ (p : TokenKind × ℕ). (r : List Token) × (record { kind = k'; place = place; start = at; len = n' } ∷ tokens' ≡ record { kind = p.0; place = place; start = at; len = p.1 } ∷ r)
-    × CutFrom (at + p.1) (along p.1 place) (drop p.1 (c ∷ text)) r) p (tokens', refl, rest)
-
-cut_nil : {at : ℕ} {place : Place} {tokens : List Token} → CutFrom at place [] tokens → tokens ≡ []
+cut_nil : {s : Spot} {tokens : List Token} → CutFrom s [] tokens → tokens ≡ []
 cut_nil ended = refl
-cut_nil (token {n} {k} f rest) = absurd (none_is k n _ refl f)
+cut_nil (white e rest) = absurd (none_is _ _ front_nil e)
+cut_nil (token e rest) = absurd (none_is _ _ front_nil e)
 
--- a text has one cut
-pub one_cut : {at : ℕ} {place : Place} {text : List ℕ} {a b : List Token} → CutFrom at place text a → CutFrom at place text b → a ≡ b
-one_cut ended cb = sym (cut_nil cb)
-one_cut (white w rest) cb = one_cut rest (cut_white w cb)
-one_cut {text = []} (token {n} {k} f rest) cb = absurd (none_is k n _ refl f)
-one_cut {place} {text = c ∷ text} (token {at} {n} {k} f rest) cb =
-    let t = cut_token (token_black c text k n f) f cb in
-    ap (λ (ts : List Token). record { kind = k; place = place; start = at; len = n } ∷ ts) (one_cut rest t.2) ∙ sym t.1
+pub one_cut_from : {s : Spot} {text : List ℕ} {a b : List Token} → CutFrom s text a → CutFrom s text b → a ≡ b
+one_cut_from ended cb = sym (cut_nil cb)
+one_cut_from (white e rest) cb = let t = cut_behind e cb in one_cut_from rest t.2 ∙ sym t.1
+one_cut_from {s} (token {n} {k} {text} e rest) cb =
+    let t = cut_behind e cb in ap (λ (ts : List Token). token_between k s (beyond (take n text) s) ∷ ts) (one_cut_from rest t.2) ∙ sym t.1
+
+-- where nothing stands at the front, no cut goes on
+cut_none : {s : Spot} {c : ℕ} {text : List ℕ} {tokens : List Token} → front_of (c ∷ text) ≡ None → CutFrom s (c ∷ text) tokens → ⊥
+cut_none none (white e rest) = none_is _ _ none e
+cut_none none (token e rest) = none_is _ _ none e
+
+pub bad_no_cut : {s : Spot} {text : List ℕ} {place : Place} {tokens : List Token} → BadFrom s text place → CutFrom s text tokens → ⊥
+bad_no_cut (bad none) cut = cut_none none cut
+bad_no_cut (past e rest) cut = let t = cut_behind e cut in bad_no_cut rest t.2
+
+abbrev BadBehind : Spot → List ℕ → Place → Front × ℕ → Type 0
+BadBehind s text place p = BadFrom (beyond (take p.1 text) s) (drop p.1 text) place
+
+bad_behind : {s : Spot} {n : ℕ} {f : Front} {text : List ℕ} {place : Place} → front_of text ≡ Some (f, n) → BadFrom s text place → BadBehind s text place (f, n)
+bad_behind e (bad none) = absurd (none_is _ _ none e)
+bad_behind {s} {n} {f} {text} {place} e (past {n = m} {f = g} e' rest) = subst (BadBehind s text place) (pair_is (g, m) (f, n) (sym e' ∙ e)) rest
+
+bad_here : {s : Spot} {c : ℕ} {text : List ℕ} {place : Place} → front_of (c ∷ text) ≡ None → BadFrom s (c ∷ text) place → s.place ≡ place
+bad_here none (bad other) = refl
+bad_here none (past e rest) = absurd (none_is _ _ none e)
+
+one_bad : {s : Spot} {text : List ℕ} {p q : Place} → BadFrom s text p → BadFrom s text q → p ≡ q
+one_bad (bad none) other = bad_here none other
+one_bad (past e rest) other = one_bad rest (bad_behind e other)
+
+-- a text that is UTF-8 is the whole of its front
+pub front_whole : (text : List ℕ) → IsUtf8 text → front_chars text ≡ chars text
+front_whole text utf8 = ap chars (take_all (utf8_valid_len text) text (let e = utf8_valid_len-IsUtf8 text utf8 in omega arith))
+
+pub one_cut : (text : List ℕ) (a b : List Token) → Cut text a → Cut text b → a ≡ b
+one_cut text a b x y = one_cut_from x.cut y.cut
+
+pub fault_no_cut : (text : List ℕ) (kind : FaultKind) (place : Place) (tokens : List Token) → IsFault text kind place → Cut text tokens → ⊥
+fault_no_cut text kind place tokens (bad_token b) cut = bad_no_cut (subst (λ (cs : List ℕ). BadFrom origin cs place) (front_whole text cut.utf8) b) cut.cut
+fault_no_cut text kind place tokens (not_utf8 fails other) cut = fails cut.utf8
+
+pub one_fault : (text : List ℕ) (kind kind' : FaultKind) (place place' : Place) → IsFault text kind place → IsFault text kind' place' → (kind ≡ kind') × (place ≡ place')
+one_fault text kind kind' place place' (bad_token b) (bad_token b') = (refl, one_bad b b')
+one_fault text kind kind' place place' (bad_token b) (not_utf8 fails cut) = absurd (bad_no_cut b cut)
+one_fault text kind kind' place place' (not_utf8 fails cut) (bad_token b) = absurd (bad_no_cut b cut)
+one_fault text kind kind' place place' (not_utf8 fails cut) (not_utf8 fails' cut') = (refl, refl)

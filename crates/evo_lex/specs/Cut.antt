@@ -1,71 +1,70 @@
--- A text cut into tokens and white space.
-use Rattle.std.specs.Prelude.{◌≡◌, ℕ, ◌+◌, List, [], ◌∷◌, slice_index, take, drop, Option, Some, None, Bool, true, ◌||◌, ◌==◌, if◌then◌else◌}
-use Rattle.std.specs.List.{prefix_len, list_all}
-use Rattle.std.specs.Char.{is_ascii_alphanumeric, is_ascii_digit}
-use Rattle.std.specs.Str.{bytes_eq}
+-- A text cut into tokens and white space, and the first fault of one that is not.
+use Rattle.std.specs.Prelude.{◌≡◌, ℕ, ◌+◌, ◌-◌, List, [], ◌∷◌, take, drop, Some, None, ◌==◌, if◌then◌else◌}
+use Rattle.std.specs.Char.{len_utf8}
+use Rattle.std.specs.Str.{IsUtf8, chars}
+use Rattle.std.specs.Str.Lossy.{utf8_valid_len}
 use Rattle.evo_base.specs.declared.place.Place.{Place}
+use Rattle.evo_base.specs.declared.fault_kind.FaultKind.{FaultKind}
+use Rattle.evo_base.specs.declared.fault_kind.FaultKind.TheVariants as fault
 use Rattle.evo_base.specs.declared.token.TokenKind.{TokenKind}
-use Rattle.evo_base.specs.declared.token.TokenKind.TheVariants as kind
 use Rattle.evo_base.specs.declared.token.Token.{Token}
-
--- a space, a tab, a line feed or a carriage return
-abbrev pub is_white : ℕ → Bool
-is_white c = c == 32 || c == 9 || c == 10 || c == 13
-
--- a character of a word or an integer: an ASCII letter, a digit or `_`
-abbrev pub is_wordly : ℕ → Bool
-is_wordly c = is_ascii_alphanumeric c || c == 95
-
--- the kinds of one character: ( ) { } , . ; @
-abbrev pub mark_of : ℕ → Option TokenKind
-mark_of c = if c == 40 then Some kind.OpenParenthesis
-    else if c == 41 then Some kind.CloseParenthesis
-    else if c == 123 then Some kind.OpenBrace
-    else if c == 125 then Some kind.CloseBrace
-    else if c == 44 then Some kind.Comma
-    else if c == 46 then Some kind.Dot
-    else if c == 59 then Some kind.Semicolon
-    else if c == 64 then Some kind.At
-    else None
-
--- how many characters of the front are of a word or an integer
-abbrev pub run_of : List ℕ → ℕ
-run_of text = prefix_len is_wordly text
-
--- the kind of a run of such characters: an integer has digits alone, and a word begins with no digit
-abbrev pub kind_of_run : List ℕ → Option TokenKind
-kind_of_run run = if is_ascii_digit (slice_index run 0) then (if list_all is_ascii_digit run then Some kind.Integer else None) else Some kind.Word
-
-abbrev pub with_len : ℕ → Option TokenKind → Option (TokenKind × ℕ)
-with_len n None = None
-with_len n (Some k) = Some (k, n)
-
--- the token that is the front of a text, with its length: a word and an integer are as long as they can be
-abbrev pub first_of : List ℕ → Option (TokenKind × ℕ)
-first_of [] = None
-first_of (c ∷ text) = if is_wordly c then with_len (run_of (c ∷ text)) (kind_of_run (take (run_of (c ∷ text)) (c ∷ text)))
-    else if bytes_eq (take 2 (c ∷ text)) (45 ∷ 62 ∷ []) then Some (kind.Arrow, 2)
-    else with_len 1 (mark_of c)
-
--- the place so many columns further on the line
-abbrev pub along : ℕ → Place → Place
-along n place = record { line = place.line; col = place.col + n }
-
--- the place behind a white character: a line ends at a line feed
-abbrev pub behind : ℕ → Place → Place
-behind c place = if c == 10 then record { line = place.line + 1; col = 1 } else along 1 place
-
--- What stands from an index and its place on is these tokens, with white space anywhere between them.
-pub data CutFrom : ℕ → Place → List ℕ → List Token → Type 0 where
-  ended : {at : ℕ} {place : Place} → CutFrom at place [] []
-  white : {at c : ℕ} {place : Place} {text : List ℕ} {tokens : List Token} → is_white c ≡ true → CutFrom (at + 1) (behind c place) text tokens → CutFrom at place (c ∷ text) tokens
-  token : {at n : ℕ} {place : Place} {k : TokenKind} {text : List ℕ} {tokens : List Token} → first_of text ≡ Some (k, n) → CutFrom (at + n) (along n place) (drop n text) tokens →
-      CutFrom at place text (record { kind = k; place = place; start = at; len = n } ∷ tokens)
+use Rattle.evo_lex.specs.declared.spot.Spot.{Spot}
+use Rattle.evo_lex.specs.declared.front.Front.{Front}
+use Rattle.evo_lex.specs.declared.front.Front.TheVariants as front
+use Rattle.evo_lex.specs.Front.{front_of}
 
 -- where a text begins
-abbrev pub origin : Place
-origin = record { line = 1; col = 1 }
+abbrev pub origin : Spot
+origin = record { place = record { line = 1; col = 1 }; at = 0 }
 
--- the text is these tokens, with white space anywhere between them
-abbrev pub Cut : List ℕ → List Token → Type 0
-Cut text tokens = CutFrom 0 origin text tokens
+-- the place behind a character: a line ends at a line feed
+abbrev pub after_char : ℕ → Place → Place
+after_char c place = if c == 10 then record { line = place.line + 1; col = 1 } else record { line = place.line; col = place.col + 1 }
+
+-- the spot behind a character
+abbrev pub behind : ℕ → Spot → Spot
+behind c s = record { place = after_char c s.place; at = s.at + len_utf8 c }
+
+-- the spot behind some characters
+abbrev pub beyond : List ℕ → Spot → Spot
+beyond [] s = s
+beyond (c ∷ cs) s = beyond cs (behind c s)
+
+-- the token between two spots
+abbrev pub token_between : TokenKind → Spot → Spot → Token
+token_between k s e = record { kind = k; place = s.place; start = s.at; len = e.at - s.at }
+
+-- the token between two spots, and none for white space
+abbrev pub tokens_of : Front → Spot → Spot → List Token
+tokens_of front.White s e = []
+tokens_of (front.Token k) s e = token_between k s e ∷ []
+
+-- What stands from a spot on is these tokens, with white space anywhere between them.
+pub data CutFrom : Spot → List ℕ → List Token → Type 0 where
+  ended : {s : Spot} → CutFrom s [] []
+  white : {s : Spot} {n : ℕ} {text : List ℕ} {tokens : List Token} → front_of text ≡ Some (front.White, n) → CutFrom (beyond (take n text) s) (drop n text) tokens → CutFrom s text tokens
+  token : {s : Spot} {n : ℕ} {k : TokenKind} {text : List ℕ} {tokens : List Token} → front_of text ≡ Some (front.Token k, n) → CutFrom (beyond (take n text) s) (drop n text) tokens →
+      CutFrom s text (token_between k s (beyond (take n text) s) ∷ tokens)
+
+-- Tokens and white space stand from a spot on up to this place, and neither of them at it, where the text has not ended.
+pub data BadFrom : Spot → List ℕ → Place → Type 0 where
+  bad : {s : Spot} {c : ℕ} {text : List ℕ} → front_of (c ∷ text) ≡ None → BadFrom s (c ∷ text) s.place
+  past : {s : Spot} {n : ℕ} {f : Front} {text : List ℕ} {place : Place} → front_of text ≡ Some (f, n) → BadFrom (beyond (take n text) s) (drop n text) place → BadFrom s text place
+
+-- the text is UTF-8 and is these tokens, with white space anywhere between them
+pub record Cut (text : List ℕ) (tokens : List Token) : Type 0 where
+  pub utf8 : IsUtf8 text
+  pub cut : CutFrom origin (chars text) tokens
+
+-- the characters of the longest front that is UTF-8
+abbrev pub front_chars : List ℕ → List ℕ
+front_chars text = chars (take (utf8_valid_len text) text)
+
+-- The text's first fault is of this kind, and stands at this place.
+pub data IsFault : List ℕ → FaultKind → Place → Type 0 where
+  bad_token : {text : List ℕ} {place : Place} → BadFrom origin (front_chars text) place → IsFault text fault.BadToken place
+  not_utf8 : {text : List ℕ} {tokens : List Token} → (IsUtf8 text → ⊥) → CutFrom origin (front_chars text) tokens → IsFault text fault.NotUtf8 (beyond (front_chars text) origin).place
+
+-- the place behind the last character
+abbrev pub end_of : List ℕ → Place
+end_of text = (beyond (front_chars text) origin).place

@@ -1,10 +1,18 @@
-//! What the definition of a cut says by itself.
+//! What the definitions of a cut and of a fault say by themselves.
 
-ghost use Rattle.std.specs.Prelude.{◌≡◌, ℕ, List};
-ghost use Rattle.evo_base.specs.declared.token.Token.{Token};
-ghost use Rattle.evo_lex.specs.Cut.{Cut};
+ghost use Rattle.evo_lex.specs.Laws.{OneCut, NoCut, OneFault};
 
 /// A text has at most one cut into tokens.
 pub fn one_cut()
-    ensures { (text : List ℕ) (a b : List Token) → Cut text a → Cut text b → a ≡ b }
+    ensures { OneCut }
+{}
+
+/// A text with a fault has no cut.
+pub fn fault_excludes_cut()
+    ensures { NoCut }
+{}
+
+/// A text has at most one fault.
+pub fn one_fault()
+    ensures { OneFault }
 {}

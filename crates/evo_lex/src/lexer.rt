@@ -1,21 +1,38 @@
-ghost use Rattle.std.specs.Prelude.{◌≡◌, ◌<◌, ◌≤◌, ◌+◌, ◌^◌, ◌-◌, List, ℕ, length, drop, take, IfOk, IfErr, IfSome, ◌∷◌, Option, Some, None};
-ghost use Rattle.std.specs.List.{list_all};
-ghost use Rattle.std.specs.Char.{is_ascii_digit};
-ghost use Rattle.evo_base.specs.declared.token.Token.{Token};
-ghost use Rattle.evo_lex.specs.Cut.{Cut, run_of, kind_of_run, mark_of, first_of, along, behind, is_wordly as wordly, is_white as white_test};
+//! Cuts a text.
+
+ghost use Rattle.std.specs.Prelude.{◌≡◌, ◌<◌, ◌≤◌, ◌^◌, ◌-◌, ◌++◌, List, length, IfOk, IfErr, MatchBool};
+ghost use Rattle.std.specs.Str.{chars, IsUtf8};
+ghost use Rattle.evo_base.specs.declared.fault_kind.FaultKind.TheVariants.{BadToken};
+ghost use Rattle.evo_lex.specs.Cut as spec;
+ghost use Rattle.evo_lex.specs.Cut.{Cut, CutFrom, BadFrom, IsFault};
 ghost use Rattle.evo_lex.specs.Fault.{OnBad};
 ghost use Rattle.evo_lex.specs.declared.lexer.LexFault.TheVariants.{Memory};
 
-use evo_base::{Place, Token, TokenKind};
-use std::alloc::{AllocFailed, Global};
+use crate::front::{Front, read_front};
+use crate::spot::{Spot, beyond};
+use evo_base::{FaultKind, Place, Token};
+use std::alloc::{AllocError, AllocFailed, Global};
 
 /// Why there are no tokens.
 #[derive(Clone, Copy, Debug, PartialEq, Eq)]
 pub enum LexFault {
     /// The text is no sequence of tokens and white space.
-    Bad,
+    Bad {
+        /// `NotUtf8` or `BadToken`.
+        kind: FaultKind,
+        /// Where the first fault stands.
+        place: Place,
+    },
     /// Memory ran out.
     Memory,
+}
+
+impl From<AllocError> for LexFault {
+    ghost from_gives = { λ _ e. e ≡ Memory };
+
+    fn from(_: AllocError) -> Self {
+        LexFault::Memory
+    }
 }
 
 impl<T: Drop> From<AllocFailed<T>> for LexFault {
@@ -26,149 +43,99 @@ impl<T: Drop> From<AllocFailed<T>> for LexFault {
     }
 }
 
-fn is_wordly(c: u8) -> bool
-    ensures { result ≡ wordly c }
+// The longest front of a text that is UTF-8, and whether it is the whole text.
+fn decoded(text: &[u8]) -> (&str, bool)
+    ensures front { chars result.0.now ≡ spec.front_chars text.now }
+    ensures whole { MatchBool result.1 (IsUtf8 text.now) (IsUtf8 text.now → ⊥) }
+    ensures within { length result.0.now ≤ length text.now }
 {
-    c.is_ascii_alphanumeric() || c == b'_'
-}
-
-// How many characters of the front are of a word.
-fn run_len(text: &[u8]) -> usize
-    ensures run { result ≡ run_of text.now }
-    ensures within { result ≤ length text.now }
-{
-    for (i, c) in text.iter().enumerate() {
-        if !is_wordly(*c) {
-            return i;
-        }
-    }
-    text.len()
-}
-
-fn mark(c: u8) -> Option<TokenKind>
-    ensures { result ≡ mark_of c }
-{
-    match c {
-        b'(' => Some(TokenKind::OpenParenthesis),
-        b')' => Some(TokenKind::CloseParenthesis),
-        b'{' => Some(TokenKind::OpenBrace),
-        b'}' => Some(TokenKind::CloseBrace),
-        b',' => Some(TokenKind::Comma),
-        b'.' => Some(TokenKind::Dot),
-        b';' => Some(TokenKind::Semicolon),
-        b'@' => Some(TokenKind::At),
-        _ => None,
+    match str::from_utf8(text) {
+        Ok(front) => (front, true),
+        Err(fault) => match str::from_utf8(&text[..fault.valid_up_to()]) {
+            Ok(front) => (front, false),
+            Err(_) => unreachable!(),
+        },
     }
 }
 
-fn are_digits(run: &[u8]) -> bool
-    ensures { result ≡ list_all is_ascii_digit run.now }
+fn characters(alloc: Global, text: &str) -> Result<Vec<char>, LexFault>
+    ensures characters { IfOk result (λ v. v.items ≡ chars text.now) }
+    ensures room { IfOk result (λ v. (spec.beyond v.items spec.origin).at ≤ length text.now) }
+    ensures fault { IfErr result (λ e. e ≡ Memory) }
 {
-    for c in run {
-        if !c.is_ascii_digit() {
-            return false;
-        }
-    }
-    true
+    Ok(text.chars().collect(alloc)?)
 }
 
-fn run_kind(run: &[u8]) -> Option<TokenKind>
-    requires { 0 < length run.now }
-    ensures { result ≡ kind_of_run run.now }
+// Keeps the front between two spots where it is a token.
+fn keep(tokens: &mut Vec<Token>, front: Front, from: Spot, to: Spot) -> Result<(), LexFault>
+    requires { from.at ≤ to.at }
+    ensures kept { IfOk result (λ _. tokens.new.items ≡ tokens.old.items ++ spec.tokens_of front from to) }
+    ensures fault { IfErr result (λ e. e ≡ Memory) }
 {
-    if !run[0].is_ascii_digit() {
-        Some(TokenKind::Word)
-    } else if are_digits(run) {
-        Some(TokenKind::Integer)
-    } else {
-        None
+    if let Front::Token(kind) = front {
+        tokens.push(Token {
+            kind,
+            place: from.place,
+            start: from.at,
+            len: to.at - from.at,
+        })?;
     }
+    Ok(())
 }
 
-fn is_white(c: u8) -> bool
-    ensures { result ≡ white_test c }
+// The tokens that some characters are, and the spot behind them.
+fn cut(alloc: Global, text: &[char]) -> Result<(Vec<Token>, Spot), LexFault>
+    requires { (spec.beyond text.now spec.origin).at < 2 ^ 32 - 1 }
+    ensures found { IfOk result (λ r. CutFrom spec.origin text.now r.0.items × (r.1 ≡ spec.beyond text.now spec.origin)) }
+    ensures bad { IfErr result (λ e. OnBad e (λ kind place. (kind ≡ BadToken) × BadFrom spec.origin text.now place)) }
 {
-    c == b' ' || c == b'\t' || c == b'\n' || c == b'\r'
-}
-
-// The token at the front, with its length.
-fn first(text: &[u8]) -> Option<(TokenKind, usize)>
-    ensures first { result ≡ first_of text.now }
-    ensures within { IfSome result (λ r. (0 < r.1) × (r.1 ≤ length text.now)) }
-{
-    if is_wordly(*text.first()?) {
-        let len = run_len(text);
-        let kind = run_kind(&text[..len])?;
-        return Some((kind, len));
+    let mut tokens = Vec::new(alloc);
+    let mut spot = Spot::origin();
+    let mut read = 0;
+    while read < text.len() {
+        let Some((found, len)) = read_front(&text[read..]) else {
+            return Err(LexFault::Bad {
+                kind: FaultKind::BadToken,
+                place: spot.place,
+            });
+        };
+        let next = beyond(&text[read..read + len], spot);
+        keep(&mut tokens, found, spot, next)?;
+        spot = next;
+        read += len;
     }
-    if text.starts_with(b"->") {
-        return Some((TokenKind::Arrow, 2));
-    }
-    let kind = mark(*text.first()?)?;
-    Some((kind, 1))
-}
-
-// The place so many columns further on the line.
-fn further(place: Place, columns: u32) -> Place
-    requires { place.col + columns < 2 ^ 32 }
-    ensures value { result ≡ along columns place }
-    ensures line { result.line ≡ place.line }
-    ensures column { result.col ≡ place.col + columns }
-{
-    Place {
-        line: place.line,
-        col: place.col + columns,
-    }
-}
-
-// The place behind a white character.
-fn past(c: u8, place: Place) -> Place
-    requires line { place.line < 2 ^ 32 - 1 }
-    requires column { place.col < 2 ^ 32 - 1 }
-    ensures value { result ≡ behind c place }
-    ensures at_most_one_line { result.line ≤ place.line + 1 }
-    ensures at_most_one_column { result.col ≤ place.col + 1 }
-{
-    if c == b'\n' {
-        Place {
-            line: place.line + 1,
-            col: 1,
-        }
-    } else {
-        further(place, 1)
-    }
+    Ok((tokens, spot))
 }
 
 /// The tokens of a text, in order, each with its place, its index and its length in bytes.
-///
-/// A column counts bytes, which are characters where the text is ASCII; any other byte is refused.
 pub fn lex(alloc: Global, text: &[u8]) -> Result<Vec<Token>, LexFault>
     requires { length text.now < 2 ^ 32 - 1 }
     // The text is these tokens.
     ensures found { IfOk result (λ v. Cut text.now v.items) }
-    // A text that is tokens is not refused.
-    ensures bad { IfErr result (λ e. OnBad e ((tokens : List Token) → Cut text.now tokens → ⊥)) }
+    // The text is no tokens, and this is its first fault.
+    ensures bad { IfErr result (λ e. OnBad e (IsFault text.now)) }
 {
-    let mut tokens = Vec::new(alloc);
-    let mut at = 0;
-    let mut place = Place { line: 1, col: 1 };
-    while at < text.len() {
-        if is_white(text[at]) {
-            place = past(text[at], place);
-            at += 1;
-            continue;
-        }
-        let Some((kind, len)) = first(&text[at..]) else {
-            return Err(LexFault::Bad);
-        };
-        tokens.push(Token {
-            kind,
-            place,
-            start: at as u32,
-            len: len as u32,
-        })?;
-        place = further(place, len as u32);
-        at += len;
+    let (front, whole) = decoded(text);
+    let characters = characters(alloc, front)?;
+    let (tokens, end) = cut(alloc, &characters)?;
+    if whole {
+        Ok(tokens)
+    } else {
+        Err(LexFault::Bad {
+            kind: FaultKind::NotUtf8,
+            place: end.place,
+        })
     }
-    Ok(tokens)
+}
+
+/// The place behind the last character of a text, or of its longest front that is UTF-8.
+pub fn end_place(alloc: Global, text: &[u8]) -> Result<Place, AllocError>
+    requires { length text.now < 2 ^ 32 - 1 }
+    ensures { IfOk result (λ place. place ≡ spec.end_of text.now) }
+{
+    let (front, _) = decoded(text);
+    match characters(alloc, front) {
+        Ok(characters) => Ok(beyond(&characters, Spot::origin()).place),
+        Err(_) => Err(AllocError),
+    }
 }

@@ -1,3 +1,2 @@
-pub mod KeywordLemmas
 pub mod Lists
 pub mod Modules

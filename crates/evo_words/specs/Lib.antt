@@ -1,4 +1,3 @@
-pub mod Keywords
 pub mod Module
 pub mod Words
 pub mod Laws

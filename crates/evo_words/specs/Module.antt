@@ -1,19 +1,9 @@
 -- What may name a module.
-use Rattle.std.specs.Prelude.{◌≢◌, ℕ, List, [], ◌∷◌, Bool, false, ◌||◌, ◌==◌, codes, IsTrue}
-use Rattle.std.specs.List.{list_all, list_any, Contains}
-use Rattle.std.specs.Str.{bytes_eq, chars}
-use Rattle.unicode_ident.specs.Ident.{is_xid_start, is_xid_continue}
-use Rattle.evo_words.specs.Keywords.{IsKeyword}
-
--- the first of these characters is `_` or one that begins an identifier of Unicode
-abbrev pub begins_well : List ℕ → Bool
-begins_well [] = false
-begins_well (c ∷ cs) = c == 95 || is_xid_start c
-
--- an identifier of Unicode, or one that begins with `_`
-pub record IsIdentifier (name : List ℕ) : Type 0 where
-  pub begins : IsTrue (begins_well (chars name))
-  pub goes_on : IsTrue (list_all is_xid_continue (chars name))
+use Rattle.std.specs.Prelude.{◌≢◌, ℕ, List, [], ◌∷◌, Bool, codes}
+use Rattle.std.specs.List.{list_any, Contains}
+use Rattle.std.specs.Str.{bytes_eq}
+use Rattle.evo_lex.specs.Identifier.{IsIdentifier}
+use Rattle.evo_base.specs.Keywords.{IsKeyword}
 
 -- the words, beside the keywords, that name no module
 abbrev pub taken : List (List ℕ)

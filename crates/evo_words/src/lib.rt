@@ -1,13 +1,11 @@
 //! The words of the command line, and what they ask for.
 #![tactic(auto)]
 
-mod keyword;
 mod laws;
 mod module_name;
 mod number;
 mod words;
 
-pub use keyword::{KEYWORDS, is_keyword};
 pub use laws::one_job;
 pub use module_name::is_module;
 pub use words::{Job, job_of};

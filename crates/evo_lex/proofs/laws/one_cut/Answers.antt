@@ -2,4 +2,4 @@ use Rattle.evo_lex.proofs.Cuts.{one_cut}
 use Rattle.evo_lex.proofs.laws.one_cut.Goals as goal
 
 pub returns : goal.returns
-returns c = λ text a b x y. one_cut x y
+returns c = one_cut
