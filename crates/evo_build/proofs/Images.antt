@@ -7,11 +7,11 @@ use Rattle.std.proofs.lemmas.Slice.Eq.{bytes_eq-Decides}
 use Rattle.std.proofs.lemmas.List.{append_cancel_left, append_cancel_right}
 use Rattle.evo_base.specs.Names.{position_of, AreDistinct}
 use Rattle.evo_base.proofs.Names.{slice_get-position_of, position_of-within, position_of-distinct}
-use Rattle.evo_tree.specs.declared.Function.{Function as Declared}
-use Rattle.evo_tree.specs.declared.Declaration.{Declaration}
-use Rattle.evo_tree.specs.declared.Term.{Term}
-use Rattle.evo_tree.specs.Interface.{names_of}
-use Rattle.evo_tree.specs.Copies.{copied_body}
+use Rattle.evo_first_form.specs.declared.Function.{Function as Declared}
+use Rattle.evo_first_form.specs.declared.Declaration.{Declaration}
+use Rattle.evo_first_form.specs.declared.Term.{Term}
+use Rattle.evo_first_form.specs.Interface.{names_of}
+use Rattle.evo_first_form.specs.Copies.{copied_body}
 use Rattle.evo_copies.specs.Reach.{AreInlinable}
 use Rattle.evo_machine.specs.declared.image.Function.{Function}
 use Rattle.evo_machine.specs.Image.{IsTimed, symbols_of, number_of, start_symbol}

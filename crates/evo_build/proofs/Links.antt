@@ -8,20 +8,20 @@ use Rattle.std.proofs.lemmas.List.{map-append}
 use Rattle.std.specs.declared.alloc.AllocError.{AllocError}
 use Rattle.evo_base.specs.Names.{position_of, AreDistinct}
 use Rattle.evo_base.proofs.Names.{slice_get-position_of}
-use Rattle.evo_tree.specs.declared.Access.{Access}
-use Rattle.evo_tree.specs.declared.Access.TheVariants.{Internal, Public, Inlinable}
-use Rattle.evo_tree.specs.declared.Function.{Function as Declared}
-use Rattle.evo_tree.specs.declared.Declaration.{Declaration}
-use Rattle.evo_tree.specs.declared.Print.{Print}
-use Rattle.evo_tree.specs.declared.Term.{Term}
-use Rattle.evo_tree.specs.declared.Term.TheVariants.{Integer, Call}
-use Rattle.evo_tree.specs.declared.Client.{Client}
-use Rattle.evo_tree.specs.declared.Interface.{Interface}
-use Rattle.evo_tree.specs.Interface.{names_of, declared_names, declarations_of, declaration_of, is_visible, interface_of}
-use Rattle.evo_tree.specs.Calls.{calls_of, calls_of_terms, calls_of_term, calls_of_body}
-use Rattle.evo_tree.specs.Copies.{copied_body, is_copied, calls_of_copies}
-use Rattle.evo_tree.specs.Accepted.{IsAcceptedLibrary, IsAcceptedInterface, IsAcceptedClient, AreKnown, AreBodiesKnown, AreCopiesKnown, callable}
-use Rattle.evo_tree.specs.Rules.{BreaksNoRule}
+use Rattle.evo_first_form.specs.declared.Access.{Access}
+use Rattle.evo_first_form.specs.declared.Access.TheVariants.{Internal, Public, Inlinable}
+use Rattle.evo_first_form.specs.declared.Function.{Function as Declared}
+use Rattle.evo_first_form.specs.declared.Declaration.{Declaration}
+use Rattle.evo_first_form.specs.declared.Print.{Print}
+use Rattle.evo_first_form.specs.declared.Term.{Term}
+use Rattle.evo_first_form.specs.declared.Term.TheVariants.{Integer, Call}
+use Rattle.evo_first_form.specs.declared.Client.{Client}
+use Rattle.evo_first_form.specs.declared.Interface.{Interface}
+use Rattle.evo_first_form.specs.Interface.{names_of, declared_names, declarations_of, declaration_of, is_visible, interface_of}
+use Rattle.evo_first_form.specs.Calls.{calls_of, calls_of_terms, calls_of_term, calls_of_body}
+use Rattle.evo_first_form.specs.Copies.{copied_body, is_copied, calls_of_copies}
+use Rattle.evo_first_form.specs.Accepted.{IsAcceptedLibrary, IsAcceptedInterface, IsAcceptedClient, AreKnown, AreBodiesKnown, AreCopiesKnown, callable}
+use Rattle.evo_first_form.specs.Rules.{BreaksNoRule}
 use Rattle.evo_copies.proofs.Facts.{CopyFacts, facts_of, Covers}
 use Rattle.evo_machine.specs.declared.image.Function.{Function}
 use Rattle.evo_machine.specs.Image.{Loads, symbols_of, number_of, start_symbol}

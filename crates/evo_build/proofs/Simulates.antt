@@ -5,9 +5,9 @@ use Rattle.std.specs.Fmt.{decimal}
 use Rattle.std.specs.List.{join_with_byte}
 use Rattle.std.proofs.lemmas.Bool.{le-leb}
 use Rattle.std.proofs.lemmas.List.{append-nil, length-append, length-map, map-append, take_at, drop_at}
-use Rattle.evo_tree.specs.declared.Print.{Print}
-use Rattle.evo_tree.specs.declared.Term.{Term}
-use Rattle.evo_tree.specs.declared.Term.TheVariants.{Integer, Call}
+use Rattle.evo_first_form.specs.declared.Print.{Print}
+use Rattle.evo_first_form.specs.declared.Term.{Term}
+use Rattle.evo_first_form.specs.declared.Term.TheVariants.{Integer, Call}
 use Rattle.evo_machine.specs.declared.image.Function.{Function}
 use Rattle.evo_machine.specs.declared.image.Instr.{Instr}
 use Rattle.evo_machine.specs.declared.image.Instr.TheVariants as Op

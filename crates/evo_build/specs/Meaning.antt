@@ -4,12 +4,12 @@ use Rattle.std.specs.Prelude.{ℕ, zero, suc, List, [], ◌∷◌, ◌++◌, map
 use Rattle.std.specs.List.{join_with_byte}
 use Rattle.std.specs.Fmt.{decimal}
 use Rattle.std.specs.Str.{bytes_eq}
-use Rattle.evo_tree.specs.declared.Function.{Function}
-use Rattle.evo_tree.specs.declared.Declaration.{Declaration}
-use Rattle.evo_tree.specs.declared.Print.{Print}
-use Rattle.evo_tree.specs.declared.Term.{Term}
-use Rattle.evo_tree.specs.declared.Term.TheVariants.{Integer, Call}
-use Rattle.evo_tree.specs.Copies.{copied_body}
+use Rattle.evo_first_form.specs.declared.Function.{Function}
+use Rattle.evo_first_form.specs.declared.Declaration.{Declaration}
+use Rattle.evo_first_form.specs.declared.Print.{Print}
+use Rattle.evo_first_form.specs.declared.Term.{Term}
+use Rattle.evo_first_form.specs.declared.Term.TheVariants.{Integer, Call}
+use Rattle.evo_first_form.specs.Copies.{copied_body}
 
 -- A program of two releases: what the interface of the old one declares, from which the client copied bodies, and the functions of
 -- the new one.

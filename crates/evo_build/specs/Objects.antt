@@ -1,13 +1,13 @@
 -- The objects of a library and of a client.
 use Rattle.std.specs.Prelude.{ℕ, ◌+◌, max, List, [], ◌∷◌, ◌++◌, map, filter, length, codes, not, Bool, false, Option, Some, None, if◌then◌else◌}
-use Rattle.evo_tree.specs.declared.Function.{Function as Declared}
-use Rattle.evo_tree.specs.declared.Declaration.{Declaration}
-use Rattle.evo_tree.specs.declared.Print.{Print}
-use Rattle.evo_tree.specs.declared.Term.{Term}
-use Rattle.evo_tree.specs.declared.Term.TheVariants.{Integer, Call}
-use Rattle.evo_tree.specs.Interface.{is_visible}
-use Rattle.evo_tree.specs.Calls.{calls_of}
-use Rattle.evo_tree.specs.Copies.{copied_body, is_copied, calls_of_copies}
+use Rattle.evo_first_form.specs.declared.Function.{Function as Declared}
+use Rattle.evo_first_form.specs.declared.Declaration.{Declaration}
+use Rattle.evo_first_form.specs.declared.Print.{Print}
+use Rattle.evo_first_form.specs.declared.Term.{Term}
+use Rattle.evo_first_form.specs.declared.Term.TheVariants.{Integer, Call}
+use Rattle.evo_first_form.specs.Interface.{is_visible}
+use Rattle.evo_first_form.specs.Calls.{calls_of}
+use Rattle.evo_first_form.specs.Copies.{copied_body, is_copied, calls_of_copies}
 use Rattle.evo_machine.specs.declared.image.Function.{Function}
 use Rattle.evo_machine.specs.declared.image.Instr.{Instr}
 use Rattle.evo_machine.specs.declared.image.Instr.TheVariants as Op

@@ -1,13 +1,13 @@
 -- What an old client does with every new library that breaks no rule.
 use Rattle.std.specs.Prelude.{◌≡◌, ℕ, List, [], ◌∷◌, ◌++◌, Bool, true, false, slice_get, Some, if◌then◌else◌}
 use Rattle.std.specs.Str.{bytes_eq}
-use Rattle.evo_tree.specs.declared.Function.{Function as Declared}
-use Rattle.evo_tree.specs.declared.Client.{Client}
-use Rattle.evo_tree.specs.declared.Print.{Print}
-use Rattle.evo_tree.specs.declared.Interface.{Interface}
-use Rattle.evo_tree.specs.Interface.{interface_of}
-use Rattle.evo_tree.specs.Accepted.{IsAcceptedLibrary}
-use Rattle.evo_tree.specs.Rules.{BreaksNoRule}
+use Rattle.evo_first_form.specs.declared.Function.{Function as Declared}
+use Rattle.evo_first_form.specs.declared.Client.{Client}
+use Rattle.evo_first_form.specs.declared.Print.{Print}
+use Rattle.evo_first_form.specs.declared.Interface.{Interface}
+use Rattle.evo_first_form.specs.Interface.{interface_of}
+use Rattle.evo_first_form.specs.Accepted.{IsAcceptedLibrary}
+use Rattle.evo_first_form.specs.Rules.{BreaksNoRule}
 use Rattle.evo_copies.specs.Reach.{AreCopies}
 use Rattle.evo_machine.specs.declared.image.Function.{Function}
 use Rattle.evo_machine.specs.declared.machine.End.TheVariants.{Done, Budget}

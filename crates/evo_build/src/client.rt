@@ -1,6 +1,6 @@
 ghost use Rattle.std.specs.Prelude.{◌≡◌, ◌++◌, [], IfOk, OnOk};
-ghost use Rattle.evo_tree.specs.Copies.{copied_body};
-ghost use Rattle.evo_tree.specs.Accepted.{IsAcceptedInterface, IsAcceptedClient};
+ghost use Rattle.evo_first_form.specs.Copies.{copied_body};
+ghost use Rattle.evo_first_form.specs.Accepted.{IsAcceptedInterface, IsAcceptedClient};
 ghost use Rattle.evo_build.specs.Objects.{client_symbol, print_code, prints_code, most_terms as the_most, start_function as the_start, with_copy, copy_functions};
 ghost use Rattle.evo_build.specs.Works.{IsClientObject, WorksWithEvery, AreTimed};
 
@@ -10,8 +10,8 @@ use crate::object::Object;
 use crate::symbol::{START, copy_symbol};
 use evo_base::{List, Name, NameTable};
 use evo_copies::{View, copies_needed};
+use evo_first_form::{Client, Interface, Print, Term};
 use evo_machine::{Function, Instr};
-use evo_tree::{Client, Interface, Print, Term};
 use std::alloc::{AllocError, Global};
 
 // Writes the code of a print.

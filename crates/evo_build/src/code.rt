@@ -4,8 +4,8 @@ ghost use Rattle.evo_build.specs.Objects.{term_code as the_instr, function_of as
 use crate::symbol::called_symbol;
 use evo_base::{List, Name};
 use evo_copies::View;
+use evo_first_form::Term;
 use evo_machine::{Function, Instr, Symbol};
-use evo_tree::Term;
 use std::alloc::{AllocError, Global};
 
 /// The instruction that puts a term's value into a slot, in code that copies the functions of this view.

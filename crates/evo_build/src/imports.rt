@@ -1,13 +1,13 @@
 ghost use Rattle.std.specs.Prelude.{◌≡◌, ◌++◌, IfOk, OnOk};
-ghost use Rattle.evo_tree.specs.Calls.{calls_of, calls_of_body, calls_of_term, calls_of_terms};
-ghost use Rattle.evo_tree.specs.Copies.{copied_body, calls_of_copies};
+ghost use Rattle.evo_first_form.specs.Calls.{calls_of, calls_of_body, calls_of_term, calls_of_terms};
+ghost use Rattle.evo_first_form.specs.Copies.{copied_body, calls_of_copies};
 ghost use Rattle.evo_build.specs.Objects.{needed, imports_of as the_imports};
 
 use crate::symbol::symbol_of;
 use evo_base::{Name, NameTable};
 use evo_copies::View;
+use evo_first_form::{Print, Term};
 use evo_machine::Symbol;
-use evo_tree::{Print, Term};
 use std::alloc::{AllocError, Global};
 
 // Adds the symbol that a term needs of the library.

@@ -1,5 +1,5 @@
 ghost use Rattle.std.specs.Prelude.{◌≡◌, [], IfOk};
-ghost use Rattle.evo_tree.specs.Interface.{is_visible as the_test};
+ghost use Rattle.evo_first_form.specs.Interface.{is_visible as the_test};
 ghost use Rattle.evo_build.specs.Objects.{library_function as the_function};
 ghost use Rattle.evo_build.specs.Works.{IsLibraryObject, AreTimed};
 
@@ -8,8 +8,8 @@ use crate::object::Object;
 use crate::symbol::symbol_of;
 use evo_base::Name;
 use evo_copies::View;
+use evo_first_form::Access;
 use evo_machine::Function;
-use evo_tree::Access;
 use std::alloc::{AllocError, Global};
 
 // Whether clients see a function.
@@ -27,7 +27,7 @@ fn library_function(
     alloc: Global,
     library: &Name,
     nothing: &View<'_>,
-    function: &evo_tree::Function,
+    function: &evo_first_form::Function,
 ) -> Result<Function, AllocError>
     requires { nothing.now ≡ [] }
     ensures { IfOk result (λ f. f ≡ the_function library.now function.now) }
@@ -43,7 +43,7 @@ fn library_function(
 pub fn build_library(
     alloc: Global,
     library: &Name,
-    functions: &[evo_tree::Function],
+    functions: &[evo_first_form::Function],
 ) -> Result<Object, AllocError>
     ensures object { IfOk result (IsLibraryObject library.now functions.now) }
     ensures timed { IfOk result (λ o. AreTimed o.functions.items) }

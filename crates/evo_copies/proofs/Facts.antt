@@ -9,12 +9,12 @@ use Rattle.std.proofs.lemmas.Option.{slice_get_within}
 use Rattle.evo_base.specs.Names.{position_of, AreDistinct, Inserts}
 use Rattle.evo_base.proofs.Names.{position_of-append-Some, position_of-push-new, position_of-within, AreDistinct-push, AreDistinct-empty}
 use Rattle.evo_base.proofs.Counting.{no_more}
-use Rattle.evo_tree.specs.declared.Declaration.{Declaration}
-use Rattle.evo_tree.specs.declared.Print.{Print}
-use Rattle.evo_tree.specs.declared.Term.{Term}
-use Rattle.evo_tree.specs.Interface.{declared_names}
-use Rattle.evo_tree.specs.Calls.{calls_of, calls_of_body}
-use Rattle.evo_tree.specs.Copies.{copied_body, is_copied}
+use Rattle.evo_first_form.specs.declared.Declaration.{Declaration}
+use Rattle.evo_first_form.specs.declared.Print.{Print}
+use Rattle.evo_first_form.specs.declared.Term.{Term}
+use Rattle.evo_first_form.specs.Interface.{declared_names}
+use Rattle.evo_first_form.specs.Calls.{calls_of, calls_of_body}
+use Rattle.evo_first_form.specs.Copies.{copied_body, is_copied}
 use Rattle.evo_copies.specs.Reach.{with_call, reached, Spreads, ends, reads, AreCopies, AreInlinable, ReadsCopy}
 
 abbrev Names : Type 0

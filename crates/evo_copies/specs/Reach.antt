@@ -1,10 +1,10 @@
 -- The functions that a client copies.
 use Rattle.std.specs.Prelude.{◌≡◌, ℕ, ◌+◌, List, [], ◌∷◌, ◌++◌, Some, None, IsSome, is_some, not, ◌&&◌, Bool, true, false, if◌then◌else◌, slice_get}
 use Rattle.evo_base.specs.Names.{position_of}
-use Rattle.evo_tree.specs.declared.Print.{Print}
-use Rattle.evo_tree.specs.declared.Declaration.{Declaration}
-use Rattle.evo_tree.specs.Calls.{calls_of, calls_of_body}
-use Rattle.evo_tree.specs.Copies.{copied_body, is_copied}
+use Rattle.evo_first_form.specs.declared.Print.{Print}
+use Rattle.evo_first_form.specs.declared.Declaration.{Declaration}
+use Rattle.evo_first_form.specs.Calls.{calls_of, calls_of_body}
+use Rattle.evo_first_form.specs.Copies.{copied_body, is_copied}
 
 module _ (declarations : List Declaration) where
   -- these copies, and one more where a call reaches it for the first time

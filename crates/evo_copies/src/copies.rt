@@ -1,11 +1,11 @@
 ghost use Rattle.std.specs.Prelude.{◌≡◌, IfOk, OnOk};
 ghost use Rattle.evo_base.specs.Names.{AreDistinct};
-ghost use Rattle.evo_tree.specs.Calls.{calls_of, calls_of_term, calls_of_terms};
+ghost use Rattle.evo_first_form.specs.Calls.{calls_of, calls_of_term, calls_of_terms};
 ghost use Rattle.evo_copies.specs.Reach.{reached, ReadsCopy, Spreads, AreCopies, AreInlinable};
 
 use crate::view::View;
 use evo_base::NameTable;
-use evo_tree::{Print, Term};
+use evo_first_form::{Print, Term};
 use std::alloc::{AllocError, Global};
 
 // Adds what a term calls.

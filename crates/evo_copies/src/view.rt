@@ -1,11 +1,11 @@
 ghost use Rattle.std.specs.Prelude.{◌≡◌, Some, None, length, IfOk, MatchOption};
 ghost use Rattle.evo_base.specs.Names.{AreDistinct};
-ghost use Rattle.evo_tree.specs.Interface.{declared_names};
-ghost use Rattle.evo_tree.specs.Copies.{copied_body};
+ghost use Rattle.evo_first_form.specs.Interface.{declared_names};
+ghost use Rattle.evo_first_form.specs.Copies.{copied_body};
 
 use evo_base::{Name, NameTable};
+use evo_first_form::{Declaration, Term};
 use evo_iface::declared_table;
-use evo_tree::{Declaration, Term};
 use std::alloc::{AllocError, Global};
 use std::marker::Model;
 
@@ -26,8 +26,8 @@ pub struct View<'a> {
 
 impl<'a> Model for View<'a> {
     ghost use Rattle.std.specs.Prelude.{List, ◌≡◌};
-    ghost use Rattle.evo_tree.specs.declared.Declaration.{Declaration};
-    ghost use Rattle.evo_tree.specs.Interface.{declared_names};
+    ghost use Rattle.evo_first_form.specs.declared.Declaration.{Declaration};
+    ghost use Rattle.evo_first_form.specs.Interface.{declared_names};
 
     ghost Value = { List Declaration };
 

@@ -1,9 +1,9 @@
 -- What was loaded can be built.
 use Rattle.std.proofs.Common.{◌≡◌, ℕ, List, Option, sym, ap, subst}
-use Rattle.evo_tree.specs.declared.Interface.{Interface}
-use Rattle.evo_tree.specs.Interface.{interface_of}
-use Rattle.evo_tree.specs.Accepted.{IsAcceptedLibrary, IsAcceptedClient}
-use Rattle.evo_tree.specs.Rules.{BreaksNoRule}
+use Rattle.evo_first_form.specs.declared.Interface.{Interface}
+use Rattle.evo_first_form.specs.Interface.{interface_of}
+use Rattle.evo_first_form.specs.Accepted.{IsAcceptedLibrary, IsAcceptedClient}
+use Rattle.evo_first_form.specs.Rules.{BreaksNoRule}
 use Rattle.evo_words.specs.declared.words.Job.{Job}
 use Rattle.evo_driver.specs.declared.load.Loaded.{Loaded}
 use Rattle.evo_driver.specs.Loading.{HasAll, Builds}

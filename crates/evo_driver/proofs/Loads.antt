@@ -1,9 +1,9 @@
 -- What a file that is not loaded says of the job.
 use Rattle.std.proofs.Common.{◌≡◌, ℕ, List, [], Bool, Option, sym, ◌∙◌, ap, subst}
-use Rattle.evo_tree.specs.declared.Interface.{Interface}
-use Rattle.evo_tree.specs.declared.Function.{Function}
-use Rattle.evo_tree.specs.Interface.{interface_of}
-use Rattle.evo_tree.specs.Rules.{BreaksNoRule, removed, removed_lines, report_of}
+use Rattle.evo_first_form.specs.declared.Interface.{Interface}
+use Rattle.evo_first_form.specs.declared.Function.{Function}
+use Rattle.evo_first_form.specs.Interface.{interface_of}
+use Rattle.evo_first_form.specs.Rules.{BreaksNoRule, removed, removed_lines, report_of}
 use Rattle.evo_words.specs.declared.words.Job.{Job}
 use Rattle.evo_driver.specs.declared.stop.Which.{Which}
 use Rattle.evo_driver.specs.declared.stop.Refusal.{Refusal}

@@ -1,9 +1,9 @@
 -- What a job answers: the bytes on its two sinks and its status.
 use Rattle.std.specs.Prelude.{◌≡◌, ℕ, List, [], ◌∷◌, ◌++◌, codes, Option}
-use Rattle.evo_tree.specs.declared.Function.{Function}
-use Rattle.evo_tree.specs.declared.Client.{Client}
-use Rattle.evo_tree.specs.Interface.{interface_of}
-use Rattle.evo_tree.specs.Rules.{report_of}
+use Rattle.evo_first_form.specs.declared.Function.{Function}
+use Rattle.evo_first_form.specs.declared.Client.{Client}
+use Rattle.evo_first_form.specs.Interface.{interface_of}
+use Rattle.evo_first_form.specs.Rules.{report_of}
 use Rattle.evo_build.specs.Meaning.{Ran, Ending, done, spent, stuck, run_of}
 use Rattle.evo_words.specs.declared.words.Job.{Job}
 use Rattle.evo_words.specs.Words.{IsEvolve}

@@ -1,11 +1,11 @@
 -- What a job finds in its files, in the order in which it reads them.
 use Rattle.std.specs.Prelude.{ℕ, ◌+◌, ◌<◌, ◌≤◌, List, length, Option}
 use Rattle.evo_base.specs.Content.{IsFront}
-use Rattle.evo_tree.specs.declared.Function.{Function}
-use Rattle.evo_tree.specs.declared.Client.{Client}
-use Rattle.evo_tree.specs.declared.Interface.{Interface}
-use Rattle.evo_tree.specs.Interface.{interface_of}
-use Rattle.evo_tree.specs.Rules.{BreaksNoRule}
+use Rattle.evo_first_form.specs.declared.Function.{Function}
+use Rattle.evo_first_form.specs.declared.Client.{Client}
+use Rattle.evo_first_form.specs.declared.Interface.{Interface}
+use Rattle.evo_first_form.specs.Interface.{interface_of}
+use Rattle.evo_first_form.specs.Rules.{BreaksNoRule}
 use Rattle.evo_iface.specs.Text.{interface_text}
 use Rattle.evo_front.specs.Texts.{file_limit, interface_limit, IsLibraryText, IsClientText}
 use Rattle.evo_words.specs.declared.words.Job.{Job}

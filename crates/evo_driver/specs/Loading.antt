@@ -2,10 +2,10 @@
 use Rattle.std.specs.Prelude.{◌≡◌, ◌+◌, ◌<◌, ◌≤◌, ℕ, List, length, Option, Bool, true, Result, Ok, Err}
 use Rattle.evo_base.specs.Causes.{Rose}
 use Rattle.evo_base.specs.Content.{IsFront}
-use Rattle.evo_tree.specs.declared.Function.{Function}
-use Rattle.evo_tree.specs.Interface.{interface_of}
-use Rattle.evo_tree.specs.Accepted.{IsAcceptedLibrary, IsAcceptedInterface, IsAcceptedClient}
-use Rattle.evo_tree.specs.Rules.{BreaksNoRule, removed}
+use Rattle.evo_first_form.specs.declared.Function.{Function}
+use Rattle.evo_first_form.specs.Interface.{interface_of}
+use Rattle.evo_first_form.specs.Accepted.{IsAcceptedLibrary, IsAcceptedInterface, IsAcceptedClient}
+use Rattle.evo_first_form.specs.Rules.{BreaksNoRule, removed}
 use Rattle.evo_front.specs.declared.library.AcceptedLibrary.{AcceptedLibrary}
 use Rattle.evo_front.specs.Texts.{file_limit}
 use Rattle.evo_machine.specs.declared.image.Function.{Function as MachineFunction}

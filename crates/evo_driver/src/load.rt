@@ -1,16 +1,16 @@
 //! The files of a job, read in their order.
 
 ghost use Rattle.std.specs.Prelude.{◌≡◌, ◌+◌, List, ℕ};
-ghost use Rattle.evo_tree.specs.Accepted.{IsAcceptedInterface};
+ghost use Rattle.evo_first_form.specs.Accepted.{IsAcceptedInterface};
 ghost use Rattle.evo_iface.specs.Text.{IsPlain};
 ghost use Rattle.evo_driver.specs.Files.{Holds, HoldsClient, IsWrongLibrary, IsWrongClient};
 ghost use Rattle.evo_driver.specs.Loading.{ReadsAs, IsShortText, IsWrongText, IsLibraryOf, LoadsLibraries, LoadsAs};
 
 use crate::stop::{Refusal, Stop, Which};
 use evo_base::{Files, GetFault, List, Name};
+use evo_first_form::{Client, Function, Interface};
 use evo_front::{AcceptedLibrary, FILE_LIMIT, LibraryFault, accept_client, accept_library};
 use evo_rules::breaks;
-use evo_tree::{Client, Function, Interface};
 use evo_words::Job;
 use std::alloc::Global;
 

@@ -1,7 +1,7 @@
 //! The report on rules that a new library breaks.
 
 ghost use Rattle.std.specs.Prelude.{◌≡◌};
-ghost use Rattle.evo_tree.specs.Rules.{removed_lines};
+ghost use Rattle.evo_first_form.specs.Rules.{removed_lines};
 ghost use Rattle.evo_driver.specs.Top.{GivesAs, WritesAll};
 ghost use Rattle.evo_driver.specs.Answer.{report_answer};
 

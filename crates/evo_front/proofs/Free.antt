@@ -1,6 +1,6 @@
 -- Names that are free.
 use Rattle.std.proofs.Common.{◌≡◌, ℕ, true, false, List, [], ◌∷◌, ◌++◌, sym, ◌∙◌}
-use Rattle.evo_tree.specs.Accepted.{AreFree, is_taken}
+use Rattle.evo_first_form.specs.Accepted.{AreFree, is_taken}
 
 free-back : (library : List ℕ) (xs ys : List (List ℕ)) → AreFree library (xs ++ ys) → AreFree library ys
 free-back library [] ys p = p

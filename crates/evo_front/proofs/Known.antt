@@ -1,6 +1,6 @@
 -- Which calls of a list are known.
 use Rattle.std.proofs.Common.{ℕ, List, [], ◌∷◌, ◌++◌}
-use Rattle.evo_tree.specs.Accepted.{AreKnown}
+use Rattle.evo_first_form.specs.Accepted.{AreKnown}
 
 module _ (functions : List (List ℕ)) where
   pub known-both : (xs ys : List (List ℕ)) → AreKnown functions xs → AreKnown functions ys → AreKnown functions (xs ++ ys)

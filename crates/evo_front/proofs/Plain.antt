@@ -1,37 +1,38 @@
 -- The names and terms of a library that was read can be read again in its interface.
-use Rattle.std.proofs.Common.{◌≡◌, ℕ, suc, true, false, List, [], ◌∷◌, refl, arith, subst}
-use Rattle.std.specs.List.{list_all}
-use Rattle.evo_tree.specs.declared.Access.{Access}
-use Rattle.evo_tree.specs.declared.Access.TheVariants as is
-use Rattle.evo_tree.specs.declared.Term.{Term}
-use Rattle.evo_tree.specs.declared.Term.TheVariants.{Integer, Call}
-use Rattle.evo_tree.specs.declared.Function.{Function}
-use Rattle.evo_tree.specs.Interface.{declarations_of, interface_of}
-use Rattle.evo_lex.specs.Cut.{is_wordly}
+use Rattle.std.proofs.Common.{◌≡◌, ◌≢◌, ℕ, suc, ◌<◌, length, get_or, false, List, [], ◌∷◌, refl, arith}
+use Rattle.std.specs.Prelude.{◌||◌, ◌==◌}
+use Rattle.std.specs.Char.{is_ascii_alphanumeric}
+use Rattle.evo_first_form.specs.declared.Access.{Access}
+use Rattle.evo_first_form.specs.declared.Access.TheVariants as is
+use Rattle.evo_first_form.specs.declared.Term.{Term}
+use Rattle.evo_first_form.specs.declared.Term.TheVariants.{Integer, Call}
+use Rattle.evo_first_form.specs.declared.Function.{Function}
+use Rattle.evo_first_form.specs.Interface.{declarations_of, interface_of}
+use Rattle.evo_lex.proofs.Identifiers.{identifier_lacks}
 use Rattle.evo_parse.specs.Words.{IsName}
 use Rattle.evo_parse.specs.Facts.{FunctionFacts, LibraryFacts, TermFacts}
-use Rattle.evo_parse.proofs.WordLemmas.{name_text, name_is, and_both}
+use Rattle.evo_parse.proofs.WordLemmas.{name_text, name_is}
 use Rattle.evo_iface.specs.Text.{Lacks, IsPlain, IsPlainTerm, ArePlain, IsReadable}
 
--- words have no byte that is not of words
-lacks : (byte : ℕ) → is_wordly byte ≡ false → (word : List ℕ) → list_all is_wordly word ≡ true → Lacks byte word
-lacks byte not [] e = tt
-lacks byte not (c ∷ cs) e =
-    let both = and_both (is_wordly c) (list_all is_wordly cs) e in
-    (λ is. absurd (let same : is_wordly byte ≡ true = subst (λ (d : ℕ). is_wordly d ≡ true) is both.0 in cc), lacks byte not cs both.1)
+lacks : (byte : ℕ) (xs : List ℕ) → ((i : ℕ) → i < length xs → get_or xs i 0 ≢ byte) → Lacks byte xs
+lacks byte [] none = tt
+lacks byte (c ∷ cs) none = (none 0 (omega arith), lacks byte cs (λ i lt. none (suc i) (omega arith)))
 
-plain_name : (byte : ℕ) → is_wordly byte ≡ false → (name : List ℕ) → IsName name → IsPlain byte name
-plain_name byte not name is = record { utf8 = name_text name (name_is name is); lacks = lacks byte not name is.identifier.goes_on }
+-- a name has no ASCII character with which no identifier goes on
+plain_name : (byte : ℕ) → byte < 128 → (is_ascii_alphanumeric byte || (byte == 95)) ≡ false → (name : List ℕ) → IsName name → IsPlain byte name
+plain_name byte low never name is =
+    let utf8 = name_text name (name_is name is) in
+    record { utf8 = utf8; lacks = lacks byte name (identifier_lacks byte low never name utf8 is.identifier) }
 
 plain_term : (t : Term) → TermFacts t → IsPlainTerm t
 plain_term (Integer n) lt = omega arith
-plain_term (Call name) is = plain_name 10 refl name is
+plain_term (Call name) is = plain_name 10 (omega arith) refl name is
 
 plain_functions : (fs : List Function) → LibraryFacts fs → ArePlain (declarations_of fs)
 plain_functions [] facts = tt
 plain_functions (f ∷ fs) facts =
     let fact : FunctionFacts f = facts 0 f (omega arith) in
-    by f.access f.name f.body (plain_name 40 refl f.name fact.name) (plain_term f.body fact.body) (plain_functions fs (λ k d lt. facts (suc k) d (omega arith)))
+    by f.access f.name f.body (plain_name 40 (omega arith) refl f.name fact.name) (plain_term f.body fact.body) (plain_functions fs (λ k d lt. facts (suc k) d (omega arith)))
   where
     by : (a : Access) (name : List ℕ) (body : Term) → IsPlain 40 name → IsPlainTerm body → ArePlain (declarations_of fs) → ArePlain (declarations_of (record { access = a; name = name; body = body } ∷ fs))
     by is.Internal name body plain term more = more

@@ -2,13 +2,13 @@
 use Rattle.std.proofs.Common.{◌≡◌, ℕ, zero, suc, List, [], ◌∷◌, Some, refl, ap}
 use Rattle.std.specs.Prelude.{slice_get}
 use Rattle.evo_base.specs.Names.{AreDistinct}
-use Rattle.evo_tree.specs.declared.Access.{Access}
-use Rattle.evo_tree.specs.declared.Access.TheVariants as is
-use Rattle.evo_tree.specs.declared.Term.{Term}
-use Rattle.evo_tree.specs.declared.Function.{Function}
-use Rattle.evo_tree.specs.Interface.{names_of, declared_names, declarations_of, interface_of}
-use Rattle.evo_tree.specs.Calls.{calls_of_term}
-use Rattle.evo_tree.specs.Accepted.{AreKnown, AreBodiesKnown, AreCopiesKnown, callable, IsAcceptedLibrary, IsAcceptedInterface}
+use Rattle.evo_first_form.specs.declared.Access.{Access}
+use Rattle.evo_first_form.specs.declared.Access.TheVariants as is
+use Rattle.evo_first_form.specs.declared.Term.{Term}
+use Rattle.evo_first_form.specs.declared.Function.{Function}
+use Rattle.evo_first_form.specs.Interface.{names_of, declared_names, declarations_of, interface_of}
+use Rattle.evo_first_form.specs.Calls.{calls_of_term}
+use Rattle.evo_first_form.specs.Accepted.{AreKnown, AreBodiesKnown, AreCopiesKnown, callable, IsAcceptedLibrary, IsAcceptedInterface}
 
 -- names with one in front
 distinct-tail : (x : List ℕ) (xs : List (List ℕ)) → AreDistinct (x ∷ xs) → AreDistinct xs

@@ -2,7 +2,7 @@
 use Rattle.std.proofs.Common.{◌≡◌, ◌≤◌, ℕ, List, length, sym, Result, Ok, Err, Option, Some, None}
 use Rattle.std.specs.Prelude.{IfOk}
 use Rattle.std.specs.declared.alloc.AllocError.{AllocError}
-use Rattle.evo_tree.specs.declared.Interface.{Interface}
+use Rattle.evo_first_form.specs.declared.Interface.{Interface}
 use Rattle.evo_iface.specs.Text.{interface_text, IsReadable, Reads}
 use Rattle.evo_front.specs.Texts.{IsInterfaceWithin, interface_limit}
 

@@ -1,11 +1,11 @@
 -- What the names of a library say of its bodies.
 use Rattle.std.specs.Prelude.{◌≡◌, ℕ, List, Option, Some, None}
 use Rattle.evo_base.specs.Names.{AreDistinct}
-use Rattle.evo_tree.specs.declared.Access.{Access}
-use Rattle.evo_tree.specs.declared.Access.TheVariants.{Internal, Public, Inlinable}
-use Rattle.evo_tree.specs.declared.Function.{Function}
-use Rattle.evo_tree.specs.Interface.{names_of}
-use Rattle.evo_tree.specs.Accepted.{AreFree}
+use Rattle.evo_first_form.specs.declared.Access.{Access}
+use Rattle.evo_first_form.specs.declared.Access.TheVariants.{Internal, Public, Inlinable}
+use Rattle.evo_first_form.specs.declared.Function.{Function}
+use Rattle.evo_first_form.specs.Interface.{names_of}
+use Rattle.evo_first_form.specs.Accepted.{AreFree}
 
 -- the names of the functions where they are free and distinct, or that they are not
 abbrev pub FreeNames : List ℕ → List Function → Option (List (List ℕ)) → Type 0

@@ -1,10 +1,10 @@
 -- Which texts are accepted.
 use Rattle.std.specs.Prelude.{◌≡◌, ◌≤◌, ◌<◌, ◌^◌, ℕ, List, Option, Some, None, Result, Ok, Err, length}
-use Rattle.evo_tree.specs.declared.Function.{Function}
-use Rattle.evo_tree.specs.declared.Client.{Client}
-use Rattle.evo_tree.specs.declared.Interface.{Interface}
-use Rattle.evo_tree.specs.Interface.{interface_of}
-use Rattle.evo_tree.specs.Accepted.{IsAcceptedLibrary, IsAcceptedInterface, IsAcceptedClient}
+use Rattle.evo_first_form.specs.declared.Function.{Function}
+use Rattle.evo_first_form.specs.declared.Client.{Client}
+use Rattle.evo_first_form.specs.declared.Interface.{Interface}
+use Rattle.evo_first_form.specs.Interface.{interface_of}
+use Rattle.evo_first_form.specs.Accepted.{IsAcceptedLibrary, IsAcceptedInterface, IsAcceptedClient}
 use Rattle.evo_parse.specs.Grammar.{SpellsLibrary, SpellsClient}
 use Rattle.evo_iface.specs.Text.{interface_text}
 use Rattle.evo_front.specs.declared.library.AcceptedLibrary.{AcceptedLibrary}

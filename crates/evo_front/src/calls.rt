@@ -1,11 +1,11 @@
 ghost use Rattle.std.specs.Prelude.{◌≡◌, MatchBool};
-ghost use Rattle.evo_tree.specs.Interface.{names_of, declared_names, declarations_of};
-ghost use Rattle.evo_tree.specs.Calls.{calls_of_term};
-ghost use Rattle.evo_tree.specs.Accepted.{AreKnown, AreBodiesKnown};
+ghost use Rattle.evo_first_form.specs.Interface.{names_of, declared_names, declarations_of};
+ghost use Rattle.evo_first_form.specs.Calls.{calls_of_term};
+ghost use Rattle.evo_first_form.specs.Accepted.{AreKnown, AreBodiesKnown};
 ghost use Rattle.evo_front.specs.Names.{callable_of};
 
 use evo_base::NameTable;
-use evo_tree::{Access, Function, Term};
+use evo_first_form::{Access, Function, Term};
 
 /// Whether a term calls nothing but these names.
 pub fn knows(names: &NameTable, term: &Term) -> bool

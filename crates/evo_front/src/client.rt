@@ -1,15 +1,15 @@
 ghost use Rattle.std.specs.Prelude.{◌≤◌, IfOk, MatchBool, length};
 ghost use Rattle.evo_base.specs.Names.{AreDistinct};
-ghost use Rattle.evo_tree.specs.Interface.{declared_names};
-ghost use Rattle.evo_tree.specs.Calls.{calls_of, calls_of_terms};
-ghost use Rattle.evo_tree.specs.Accepted.{AreKnown, IsAcceptedClient};
+ghost use Rattle.evo_first_form.specs.Interface.{declared_names};
+ghost use Rattle.evo_first_form.specs.Calls.{calls_of, calls_of_terms};
+ghost use Rattle.evo_first_form.specs.Accepted.{AreKnown, IsAcceptedClient};
 ghost use Rattle.evo_front.specs.Texts.{file_limit, AcceptsClient};
 
 use crate::calls::knows;
 use evo_base::NameTable;
+use evo_first_form::{Client, Interface, Print, Term};
 use evo_iface::declared_table;
 use evo_parse::read_client;
-use evo_tree::{Client, Interface, Print, Term};
 use std::alloc::{AllocError, Global};
 
 fn knows_terms(functions: &NameTable, terms: &[Term]) -> bool

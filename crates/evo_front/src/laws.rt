@@ -1,9 +1,9 @@
 //! What the definitions of acceptance say by themselves.
 
 ghost use Rattle.std.specs.Prelude.{ℕ, List};
-ghost use Rattle.evo_tree.specs.declared.Function.{Function};
-ghost use Rattle.evo_tree.specs.Interface.{interface_of};
-ghost use Rattle.evo_tree.specs.Accepted.{IsAcceptedLibrary, IsAcceptedInterface};
+ghost use Rattle.evo_first_form.specs.declared.Function.{Function};
+ghost use Rattle.evo_first_form.specs.Interface.{interface_of};
+ghost use Rattle.evo_first_form.specs.Accepted.{IsAcceptedLibrary, IsAcceptedInterface};
 
 /// The interface of a library that is accepted is accepted.
 pub fn interfaces_are_accepted()

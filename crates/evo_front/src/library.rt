@@ -1,15 +1,15 @@
 ghost use Rattle.std.specs.Prelude.{◌≡◌, ◌≤◌, IfOk, length};
 ghost use Rattle.evo_iface.specs.Text.{IsPlain, IsReadable};
-ghost use Rattle.evo_tree.specs.Interface.{interface_of as the_interface};
+ghost use Rattle.evo_first_form.specs.Interface.{interface_of as the_interface};
 ghost use Rattle.evo_front.specs.Texts.{file_limit, AcceptsLibrary, HasAcceptedInterface, IsInterfaceWithin};
 ghost use Rattle.evo_front.specs.declared.library.LibraryFault.TheVariants.{Memory};
 
 use crate::limits::INTERFACE_LIMIT;
 use crate::names::are_accepted;
 use evo_base::{List, Name};
+use evo_first_form::{Function, Interface};
 use evo_iface::{interface_of, read_interface};
 use evo_parse::read_library;
-use evo_tree::{Function, Interface};
 use std::alloc::{AllocError, Global};
 
 /// A library, and its interface as it was read from the interface's text.

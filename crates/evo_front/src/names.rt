@@ -2,14 +2,14 @@ ghost use Rattle.std.specs.Prelude.{◌≡◌, IfOk, MatchBool};
 ghost use Rattle.std.specs.List.{list_any};
 ghost use Rattle.std.specs.Str.{bytes_eq};
 ghost use Rattle.evo_base.specs.Names.{AreDistinct};
-ghost use Rattle.evo_tree.specs.Interface.{names_of, declared_names, declarations_of};
-ghost use Rattle.evo_tree.specs.Accepted.{is_taken as the_test, IsAcceptedLibrary};
+ghost use Rattle.evo_first_form.specs.Interface.{names_of, declared_names, declarations_of};
+ghost use Rattle.evo_first_form.specs.Accepted.{is_taken as the_test, IsAcceptedLibrary};
 ghost use Rattle.evo_front.specs.Names.{FreeNames};
 
 use crate::calls::knows_bodies;
 use crate::limits::MOST_DECLARATIONS;
 use evo_base::{Name, NameTable};
-use evo_tree::{Access, Function};
+use evo_first_form::{Access, Function};
 use std::alloc::{AllocError, Global};
 
 // The names that no declaration at top level has, besides the module's own.

@@ -1,11 +1,11 @@
 -- The lines of functions.
 use Rattle.std.proofs.Common.{◌≡◌, ◌≢◌, ℕ, List, [], ◌∷◌, ◌++◌, length, slice_index, codes, Option, Some, None, refl, sym, ◌∙◌, ap, append_assoc, arith}
 use Rattle.std.proofs.lemmas.List.{append-nil}
-use Rattle.evo_tree.specs.declared.Access.TheVariants as is
-use Rattle.evo_tree.specs.declared.Access.{Access}
-use Rattle.evo_tree.specs.declared.Term.{Term}
-use Rattle.evo_tree.specs.declared.Declaration.{Declaration}
-use Rattle.evo_tree.specs.Interface.{declarations_of}
+use Rattle.evo_first_form.specs.declared.Access.TheVariants as is
+use Rattle.evo_first_form.specs.declared.Access.{Access}
+use Rattle.evo_first_form.specs.declared.Term.{Term}
+use Rattle.evo_first_form.specs.declared.Declaration.{Declaration}
+use Rattle.evo_first_form.specs.Interface.{declarations_of}
 use Rattle.evo_iface.specs.Text.{IsPlain, IsPlainTerm, IsPlainBody, ArePlain, function_text, functions_text}
 use Rattle.evo_iface.specs.Fronts.{IsBetween, IsInlinable, IsFront}
 

@@ -3,8 +3,8 @@ use Rattle.std.specs.Prelude.{◌≡◌, ◌<◌, ◌^◌, ℕ, List, ◌++◌, 
 use Rattle.std.specs.List.{prefix_len}
 use Rattle.std.specs.Fmt.{decimal}
 use denote.Ref.{Bor}
-use Rattle.evo_tree.specs.declared.Term.{Term}
-use Rattle.evo_tree.specs.declared.Declaration.{Declaration}
+use Rattle.evo_first_form.specs.declared.Term.{Term}
+use Rattle.evo_first_form.specs.declared.Declaration.{Declaration}
 use Rattle.evo_iface.specs.Text.{IsPlain, IsPlainTerm, IsPlainBody, ArePlain, term_text, function_text, functions_text}
 
 -- how many bytes stand before the first such byte

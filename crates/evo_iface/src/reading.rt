@@ -9,7 +9,7 @@ use crate::texts::{
     BEHIND_TERM,
 };
 use evo_base::{List, Name};
-use evo_tree::{Declaration, Interface, Term};
+use evo_first_form::{Declaration, Interface, Term};
 use std::alloc::{AllocError, Global};
 
 // How many bytes stand before the first such byte.

@@ -1,9 +1,9 @@
 ghost use Rattle.std.specs.Prelude.{◌≡◌, IfOk};
 ghost use Rattle.evo_base.specs.Names.{AreDistinct};
-ghost use Rattle.evo_tree.specs.Interface.{declared_names};
+ghost use Rattle.evo_first_form.specs.Interface.{declared_names};
 
 use evo_base::NameTable;
-use evo_tree::Declaration;
+use evo_first_form::Declaration;
 use std::alloc::{AllocError, Global};
 
 /// The declared names with their places, where they are distinct. Only memory can fail.

@@ -4,7 +4,7 @@ ghost use Rattle.evo_iface.specs.Fronts.{IsNumber, IsTerm};
 
 use crate::texts::BEHIND_CALL;
 use evo_base::Name;
-use evo_tree::Term;
+use evo_first_form::Term;
 use std::alloc::{AllocError, Global};
 
 /// The name of these bytes, where they are UTF-8.

@@ -1,5 +1,5 @@
 ghost use Rattle.std.specs.Prelude.{◌≡◌, ◌++◌, Some, [], ◌∷◌, IfOk, OnOk};
-ghost use Rattle.evo_tree.specs.Interface.{declarations_of, interface_of as the_interface};
+ghost use Rattle.evo_first_form.specs.Interface.{declarations_of, interface_of as the_interface};
 ghost use Rattle.evo_iface.specs.Text.{interface_text, functions_text, function_text, term_text};
 
 use crate::texts::{
@@ -7,7 +7,7 @@ use crate::texts::{
     BEHIND_NAME, BEHIND_TERM,
 };
 use evo_base::Name;
-use evo_tree::{Access, Function, Term};
+use evo_first_form::{Access, Function, Term};
 use std::alloc::{AllocError, Global};
 
 // Writes a name between two texts.

@@ -4,10 +4,10 @@ use Rattle.std.specs.Prelude.{All, Result, Ok, Err, IfOk, IfSome}
 use Rattle.std.specs.declared.alloc.AllocError.{AllocError}
 use Rattle.std.proofs.lemmas.List.Elements.{All-nil, All-cons}
 use Rattle.evo_base.specs.declared.token.TokenKind.TheVariants as kind
-use Rattle.evo_tree.specs.declared.Function.{Function}
-use Rattle.evo_tree.specs.declared.Term.{Term}
-use Rattle.evo_tree.specs.declared.Print.{Print}
-use Rattle.evo_tree.specs.declared.Client.{Client}
+use Rattle.evo_first_form.specs.declared.Function.{Function}
+use Rattle.evo_first_form.specs.declared.Term.{Term}
+use Rattle.evo_first_form.specs.declared.Print.{Print}
+use Rattle.evo_first_form.specs.declared.Client.{Client}
 use Rattle.evo_combinators.specs.Rule.{IsOnly, Many, Repeat}
 use Rattle.evo_parse.specs.Pieces.{Piece, pieces, mark}
 use Rattle.evo_parse.specs.Grammar.{Rule, IsBody, IsFunction, IsFurther, IsLibrary, IsTerm, IsTerms, IsPrint, IsClient, SpellsLibrary, SpellsClient}

@@ -1,5 +1,4 @@
 pub mod WordLemmas
-pub mod Decimal
 pub mod Tests
 pub mod Lengths
 pub mod Right

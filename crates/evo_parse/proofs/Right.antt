@@ -3,12 +3,12 @@ use Rattle.std.proofs.Common.{◌≡◌, ℕ, ◌-◌, Bool, true, false, List, 
 use Rattle.std.specs.Prelude.{codes}
 use Rattle.evo_base.specs.declared.token.TokenKind.{TokenKind}
 use Rattle.evo_base.specs.declared.token.TokenKind.TheVariants as kind
-use Rattle.evo_tree.specs.declared.Access.{Access}
-use Rattle.evo_tree.specs.declared.Access.TheVariants as access
-use Rattle.evo_tree.specs.declared.Function.{Function}
-use Rattle.evo_tree.specs.declared.Term.{Term}
-use Rattle.evo_tree.specs.declared.Term.TheVariants as tree
-use Rattle.evo_tree.specs.declared.Print.{Print}
+use Rattle.evo_first_form.specs.declared.Access.{Access}
+use Rattle.evo_first_form.specs.declared.Access.TheVariants as access
+use Rattle.evo_first_form.specs.declared.Function.{Function}
+use Rattle.evo_first_form.specs.declared.Term.{Term}
+use Rattle.evo_first_form.specs.declared.Term.TheVariants as tree
+use Rattle.evo_first_form.specs.declared.Print.{Print}
 use Rattle.evo_combinators.specs.Rule.{Only, Led, Or, Then, Many, Repeat, Some_of, Goes}
 use Rattle.evo_combinators.specs.Reader.{pure, alt, one, many, ◌>>=◌}
 use Rattle.evo_combinators.specs.Guard.{On, Run, ahead}
@@ -51,11 +51,11 @@ fits_led {A} {B} {Stop} {S} {q} f t a takes fits = record {
 fits_mark : {B : Type 0} {Stop : Option Piece → Type 0} {S : Rule B} {q : Reader B} (k : TokenKind) → Fits Stop S q → Fits Stop (Led (mark k) (λ _. S)) (one (mark k) >>= (λ _. q))
 fits_mark k fits = fits_led (mark k) (a_piece k []) tt (mark_takes k) (λ _. fits)
 
-fits_word : {B : Type 0} {Stop : Option Piece → Type 0} {S : Rule B} {q : Reader B} (w : List ℕ) → Fits Stop S q → Fits Stop (Led (word w) (λ _. S)) (one (word w) >>= (λ _. q))
-fits_word w fits = fits_led (word w) (a_piece kind.Word w) tt (word_takes w) (λ _. fits)
+fits_word : {B : Type 0} {Stop : Option Piece → Type 0} {S : Rule B} {q : Reader B} (k : TokenKind) (w : List ℕ) → Fits Stop S q → Fits Stop (Led (word k w) (λ _. S)) (one (word k w) >>= (λ _. q))
+fits_word k w fits = fits_led (word k w) (a_piece k w) tt (word_takes k w) (λ _. fits)
 
 fits_name : {B : Type 0} {Stop : Option Piece → Type 0} {S : List ℕ → Rule B} {q : List ℕ → Reader B} → ((n : List ℕ) → Fits Stop (S n) (q n)) → Fits Stop (Led name S) (one name >>= q)
-fits_name fits = fits_led name (a_piece kind.Word (codes "a")) (codes "a") name_takes fits
+fits_name fits = fits_led name (a_piece kind.Identifier (codes "a")) (codes "a") name_takes fits
 
 fits_then : {A B : Type 0} {Stop End : Option Piece → Type 0} {S : Rule A} {R : A → Rule B} {p : Reader A} {q : A → Reader B} →
     ((a : A) (vs rest : List Piece) (b : B) → R a vs b → End (first rest) → Stop (first (vs ++ rest))) →
@@ -125,52 +125,52 @@ fits_term_here =
 
 fits_signature : Fits Anything IsSignature signature
 unfolding signature
-fits_signature = fits_mark kind.OpenParenthesis (fits_mark kind.CloseParenthesis (fits_mark kind.Arrow (fits_word (codes "Int") (fits_pure tt tt))))
+fits_signature = fits_mark kind.OpenParenthesis (fits_mark kind.CloseParenthesis (fits_word kind.Operator (codes "->") (fits_word kind.Identifier (codes "Int") (fits_pure tt tt))))
 
 fits_body : Fits Anything IsBody body
 unfolding body
-fits_body = fits_mark kind.OpenBrace (fits_word (codes "return") (fits_next fits_term_here (λ t. fits_mark kind.CloseBrace (fits_pure tt t))))
+fits_body = fits_mark kind.OpenBrace (fits_word kind.Keyword (codes "return") (fits_next fits_term_here (λ t. fits_mark kind.CloseBrace (fits_pure tt t))))
 
 -- no access goes on: `func` follows, or nothing
 abbrev Func : Option Piece → Type 0
-Func x = (t : Piece) → x ≡ Some t → word (codes "func") t ≡ Some tt
+Func x = (t : Piece) → x ≡ Some t → word kind.Keyword (codes "func") t ≡ Some tt
 
 func_none : Func None
 func_none t is = absurd cc
 
-func_not_public : (t : Piece) (a : Unit {0}) → Func (Some t) → word (codes "public") t ≡ Some a → ⊥
-func_not_public t a func takes = let same = sym (word_text (codes "func") t tt (func t refl)) ∙ word_text (codes "public") t a takes in cc
+func_not_public : (t : Piece) (a : Unit {0}) → Func (Some t) → word kind.Keyword (codes "public") t ≡ Some a → ⊥
+func_not_public t a func takes = let same = sym (word_text kind.Keyword (codes "func") t tt (func t refl)) ∙ word_text kind.Keyword (codes "public") t a takes in cc
 
 func_not_at : (t : Piece) (a : Unit {0}) → Func (Some t) → mark kind.At t ≡ Some a → ⊥
-func_not_at t a func takes = omega (arith, word_number (codes "func") t tt (func t refl), mark_number kind.At t a takes)
+func_not_at t a func takes = omega (arith, word_number kind.Keyword (codes "func") t tt (func t refl), mark_number kind.At t a takes)
 
 abbrev Attribute : Rule Access
-Attribute = Led (word (codes "inlinable")) (λ _. Led (word (codes "public")) (λ _. Only access.Inlinable))
+Attribute = Led (word kind.Identifier (codes "inlinable")) (λ _. Led (word kind.Keyword (codes "public")) (λ _. Only access.Inlinable))
 
 fits_attribute : Fits Func Attribute inlinable
 unfolding inlinable
-fits_attribute = fits_word (codes "inlinable") (fits_word (codes "public") (fits_pure func_none access.Inlinable))
+fits_attribute = fits_word kind.Identifier (codes "inlinable") (fits_word kind.Keyword (codes "public") (fits_pure func_none access.Inlinable))
 
 abbrev IsMark : Piece → Type 0
 IsMark p = number_of p.kind ≡ 10
 
-no_public : (us rest : List Piece) (a : Access) → Or (Led (mark kind.At) (λ _. Attribute)) (Only access.Internal) us a → Func (first rest) → Skips (word (codes "public")) (us ++ rest)
+no_public : (us rest : List Piece) (a : Access) → Or (Led (mark kind.At) (λ _. Attribute)) (Only access.Internal) us a → Func (first rest) → Skips (word kind.Keyword (codes "public")) (us ++ rest)
 no_public us rest a (inl s) stop =
-    begins_skips IsMark (word (codes "public")) (Led (mark kind.At) (λ _. Attribute)) (begins_led IsMark (mark kind.At) (λ _. Attribute) (λ t u takes. mark_number kind.At t u takes))
-    (λ t u h takes. omega (arith, h, word_number (codes "public") t u takes)) us rest a s
-no_public us rest a (inr s) stop = stop_skips Func (word (codes "public")) func_not_public access.Internal us rest a s stop
+    begins_skips IsMark (word kind.Keyword (codes "public")) (Led (mark kind.At) (λ _. Attribute)) (begins_led IsMark (mark kind.At) (λ _. Attribute) (λ t u takes. mark_number kind.At t u takes))
+    (λ t u h takes. omega (arith, h, word_number kind.Keyword (codes "public") t u takes)) us rest a s
+no_public us rest a (inr s) stop = stop_skips Func (word kind.Keyword (codes "public")) func_not_public access.Internal us rest a s stop
 
 fits_access : Fits Func IsAccess access_of
 unfolding access_of
 fits_access =
-    fits_alt (word (codes "public")) no_public (λ _. fits_pure func_none access.Public)
+    fits_alt (word kind.Keyword (codes "public")) no_public (λ _. fits_pure func_none access.Public)
     (fits_alt (mark kind.At) (stop_skips Func (mark kind.At) func_not_at access.Internal) (λ _. fits_attribute) (fits_pure func_none access.Internal))
 
 abbrev Named : Access → Rule Function
 Named a = Led name (λ n. Then IsSignature (λ _. Then IsBody (λ b. Only (function a n b))))
 
 abbrev Declared : Access → Rule Function
-Declared a = Led (word (codes "func")) (λ _. Named a)
+Declared a = Led (word kind.Keyword (codes "func")) (λ _. Named a)
 
 abbrev named : Access → Reader Function
 named a = one name >>= (λ n. signature >>= (λ _. body >>= (λ b. pure (function a n b))))
@@ -181,11 +181,11 @@ fits_named a = fits_name (λ n. fits_next fits_signature (λ _. fits_map (functi
 declared_follows : (a : Access) (vs rest : List Piece) (f : Function) → Declared a vs f → Unit {0} → Func (first (vs ++ rest))
 declared_follows a vs rest f (t, u, ws, cut, takes, s) stop p is =
     let same : t ≡ p = let both = sym (ap (λ (z : List Piece). first (z ++ rest)) cut) ∙ is in cc in
-    subst (λ (q : Piece). word (codes "func") q ≡ Some tt) same takes
+    subst (λ (q : Piece). word kind.Keyword (codes "func") q ≡ Some tt) same takes
 
 fits_function : Fits Anything IsFunction read.function
 unfolding read.function
-fits_function = fits_then declared_follows fits_access (λ a. fits_word (codes "func") (fits_named a))
+fits_function = fits_then declared_follows fits_access (λ a. fits_word kind.Keyword (codes "func") (fits_named a))
 
 -- ---- items
 
@@ -246,7 +246,7 @@ module _ {B : Type 0} (i : Item) (S : Rule B) (p : Reader B) (fits : Fits Anythi
   right_items first n =
       right_run_on (leads i) (λ _. behind p) (λ _ _. false) Ended Anything (λ _. Behind) (λ _. Behind) (λ n _. fits_behind.right n) (λ _. behind_some)
       (λ first t us is. enters_by Anything Behind Behind (behind p) fits_behind.right t (behind_goes first t is) us)
-      refl (λ first x ended. ap (of_first (leads i first)) ended) (λ x stop. tt) (λ first t is. tt) n first
+      refl (λ first x ended. ap (of_first (leads i first)) ended) (λ x stop. tt) (λ first b t is. tt) n first
 
   to_more : (us : List Piece) (bs : List B) → Items false us bs → Repeat (IsFurther S) us bs
   to_more us [] e = e
@@ -289,10 +289,10 @@ function_starts us f (a, vs, ws, cut, inr (inr (none, same)), (t, u, xs, cut', t
 function_goes : (t : Piece) → begins item.Function t ≡ true → Goes IsFunction (t ∷ [])
 function_goes t is = elim (function_begun t is) [
   | inl takes ↦ let (us, f, s) = (fits_named access.Internal).some in (us, f, (access.Internal, [], t ∷ us, refl, inr (inr (refl, refl)), (t, tt, us, refl, takes, s)))
-  | inr (inl takes) ↦ let (us, f, s) = (fits_word (codes "func") (fits_named access.Public)).some in (us, f, (access.Public, t ∷ [], us, refl, inl (t, tt, [], refl, takes, (refl, refl)), s))
+  | inr (inl takes) ↦ let (us, f, s) = (fits_word kind.Keyword (codes "func") (fits_named access.Public)).some in (us, f, (access.Public, t ∷ [], us, refl, inl (t, tt, [], refl, takes, (refl, refl)), s))
   | inr (inr takes) ↦
       let (xs, a, r) = fits_attribute.some in
-      let (us, f, s) = (fits_word (codes "func") (fits_named a)).some in
+      let (us, f, s) = (fits_word kind.Keyword (codes "func") (fits_named a)).some in
       (xs ++ us, f, (a, t ∷ xs, us, refl, inr (inl (t, tt, xs, refl, takes, r)), s))
 ]
 
@@ -338,17 +338,17 @@ fits_printed = fits_mark_here kind.OpenParenthesis (fits_then shut_follows fits_
 
 fits_print : Fits Anything IsPrint read.print
 unfolding read.print
-fits_print = fits_word (codes "print") fits_printed
+fits_print = fits_word kind.Identifier (codes "print") fits_printed
 
 print_starts : Begins (λ t. begins item.Print t ≡ true) IsPrint
-print_starts = begins_led (λ t. begins item.Print t ≡ true) (word (codes "print")) (λ _. Printed) print_begins
+print_starts = begins_led (λ t. begins item.Print t ≡ true) (word kind.Identifier (codes "print")) (λ _. Printed) print_begins
 
 print_goes : (t : Piece) → begins item.Print t ≡ true → Goes IsPrint (t ∷ [])
 print_goes t is = let (us, p, s) = fits_printed.some in (us, p, (t, tt, us, refl, print_begun t is, s))
 
 fits_client : Fits Ended IsClient read.client
 unfolding read.client
-fits_client = fits_word (codes "import") (fits_name (λ n. fits_map (λ ps. record { «import» = n; prints = ps }) (fits_more item.Print IsPrint read.print fits_print print_starts print_goes)))
+fits_client = fits_word kind.Keyword (codes "import") (fits_name (λ n. fits_map (λ ps. record { «import» = n; prints = ps }) (fits_more item.Print IsPrint read.print fits_print print_starts print_goes)))
 
 pub right_client : Exact Ended IsClient read.client
 right_client = fits_client.right

@@ -3,8 +3,8 @@ use Rattle.std.proofs.Common.{◌≡◌, ℕ, List, Option, Some, None, subst}
 use Rattle.std.specs.Prelude.{Result, Ok, Err, IfOk}
 use Rattle.std.specs.declared.alloc.AllocError.{AllocError}
 use Rattle.evo_base.specs.declared.token.Token.{Token}
-use Rattle.evo_tree.specs.declared.Function.{Function}
-use Rattle.evo_tree.specs.declared.Client.{Client}
+use Rattle.evo_first_form.specs.declared.Function.{Function}
+use Rattle.evo_first_form.specs.declared.Client.{Client}
 use Rattle.evo_combinators.specs.Rule.{IsOnly}
 use Rattle.evo_combinators.proofs.Sequences.{whole_one}
 use Rattle.evo_lex.specs.Cut.{Cut}
@@ -17,7 +17,7 @@ use Rattle.evo_parse.proofs.Right.{Ended, right_library, right_client}
 -- another cut of the text has the same tokens
 module _ {A : Type 0} (S : List Piece → A → Type 0) (text : List ℕ) where
   of_cut : (ts us : List Token) (a : A) → Cut text ts → Cut text us → S (pieces text 1 us) a → S (pieces text 1 ts) a
-  of_cut ts us a cut cut' s = subst (λ (vs : List Token). S (pieces text 1 vs) a) (one_cut cut' cut) s
+  of_cut ts us a cut cut' s = subst (λ (vs : List Token). S (pieces text 1 vs) a) (one_cut text us ts cut' cut) s
 
 pub only_library : (text : List ℕ) (ts : List Token) (o : Option (List Function)) → Cut text ts → IsOnly (IsLibrary (pieces text 1 ts)) o → IsOnly (SpellsLibrary text) o
 only_library text ts None cut only = λ fs s. only fs (of_cut IsLibrary text ts s.tokens fs cut s.cut s.spells)

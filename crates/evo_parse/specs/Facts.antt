@@ -1,10 +1,10 @@
 -- What holds of each library and client that a text spells.
 use Rattle.std.specs.Prelude.{◌^◌, ◌<◌, List, All}
-use Rattle.evo_tree.specs.declared.Function.{Function}
-use Rattle.evo_tree.specs.declared.Term.{Term}
-use Rattle.evo_tree.specs.declared.Term.TheVariants as term
-use Rattle.evo_tree.specs.declared.Print.{Print}
-use Rattle.evo_tree.specs.declared.Client.{Client}
+use Rattle.evo_first_form.specs.declared.Function.{Function}
+use Rattle.evo_first_form.specs.declared.Term.{Term}
+use Rattle.evo_first_form.specs.declared.Term.TheVariants as term
+use Rattle.evo_first_form.specs.declared.Print.{Print}
+use Rattle.evo_first_form.specs.declared.Client.{Client}
 use Rattle.evo_parse.specs.Words.{IsName}
 
 abbrev pub TermFacts : Term → Type 0

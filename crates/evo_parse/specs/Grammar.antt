@@ -12,13 +12,13 @@
 use Rattle.std.specs.Prelude.{ℕ, List, [], ◌∷◌, codes}
 use Rattle.evo_base.specs.declared.token.TokenKind.TheVariants as kind
 use Rattle.evo_base.specs.declared.token.Token.{Token}
-use Rattle.evo_tree.specs.declared.Access.{Access}
-use Rattle.evo_tree.specs.declared.Access.TheVariants as access
-use Rattle.evo_tree.specs.declared.Function.{Function}
-use Rattle.evo_tree.specs.declared.Term.{Term}
-use Rattle.evo_tree.specs.declared.Term.TheVariants as term
-use Rattle.evo_tree.specs.declared.Print.{Print}
-use Rattle.evo_tree.specs.declared.Client.{Client}
+use Rattle.evo_first_form.specs.declared.Access.{Access}
+use Rattle.evo_first_form.specs.declared.Access.TheVariants as access
+use Rattle.evo_first_form.specs.declared.Function.{Function}
+use Rattle.evo_first_form.specs.declared.Term.{Term}
+use Rattle.evo_first_form.specs.declared.Term.TheVariants as term
+use Rattle.evo_first_form.specs.declared.Print.{Print}
+use Rattle.evo_first_form.specs.declared.Client.{Client}
 use Rattle.evo_combinators.specs.Rule.{Only, Led, Or, Then, Many, Repeat}
 use Rattle.evo_combinators.specs.Guard.{On}
 use Rattle.evo_lex.specs.Cut.{Cut}
@@ -45,23 +45,23 @@ IsTerm = Or (Led integer (λ v. Only (term.Integer v))) IsCall
 
 -- "(" ")" "->" "Int"
 abbrev pub IsSignature : Rule (Unit {0})
-IsSignature = Led (mark kind.OpenParenthesis) (λ _. Led (mark kind.CloseParenthesis) (λ _. Led (mark kind.Arrow) (λ _. Led (word (codes "Int")) (λ _. Only tt))))
+IsSignature = Led (mark kind.OpenParenthesis) (λ _. Led (mark kind.CloseParenthesis) (λ _. Led (word kind.Operator (codes "->")) (λ _. Led (word kind.Identifier (codes "Int")) (λ _. Only tt))))
 
 -- "{" "return" TERM "}"
 abbrev pub IsBody : Rule Term
-IsBody = Led (mark kind.OpenBrace) (λ _. Led (word (codes "return")) (λ _. Then (Here IsTerm) (λ t. Led (mark kind.CloseBrace) (λ _. Only t))))
+IsBody = Led (mark kind.OpenBrace) (λ _. Led (word kind.Keyword (codes "return")) (λ _. Then (Here IsTerm) (λ t. Led (mark kind.CloseBrace) (λ _. Only t))))
 
 -- [ "public" | "@" "inlinable" "public" ]
 abbrev pub IsAccess : Rule Access
-IsAccess = Or (Led (word (codes "public")) (λ _. Only access.Public))
-    (Or (Led (mark kind.At) (λ _. Led (word (codes "inlinable")) (λ _. Led (word (codes "public")) (λ _. Only access.Inlinable)))) (Only access.Internal))
+IsAccess = Or (Led (word kind.Keyword (codes "public")) (λ _. Only access.Public))
+    (Or (Led (mark kind.At) (λ _. Led (word kind.Identifier (codes "inlinable")) (λ _. Led (word kind.Keyword (codes "public")) (λ _. Only access.Inlinable)))) (Only access.Internal))
 
 abbrev pub function : Access → List ℕ → Term → Function
 function a n b = record { access = a; name = n; body = b }
 
 -- access "func" NAME signature body
 abbrev pub IsFunction : Rule Function
-IsFunction = Then IsAccess (λ a. Led (word (codes "func")) (λ _. Led name (λ n. Then IsSignature (λ _. Then IsBody (λ b. Only (function a n b))))))
+IsFunction = Then IsAccess (λ a. Led (word kind.Keyword (codes "func")) (λ _. Led name (λ n. Then IsSignature (λ _. Then IsBody (λ b. Only (function a n b))))))
 
 -- a semicolon, or nothing before a token on a later line; and then an item
 abbrev pub IsFurther : {A : Type 0} → Rule A → Rule A
@@ -77,11 +77,11 @@ IsTerms = Then IsTerm (λ t. Then (Many (mark kind.Comma) (λ _. IsTerm)) (λ ts
 
 -- "print" "(" terms ")"
 abbrev pub IsPrint : Rule Print
-IsPrint = Led (word (codes "print")) (λ _. Here (Led (mark kind.OpenParenthesis) (λ _. Then IsTerms (λ ts. Led (mark kind.CloseParenthesis) (λ _. Only (record { terms = ts }))))))
+IsPrint = Led (word kind.Identifier (codes "print")) (λ _. Here (Led (mark kind.OpenParenthesis) (λ _. Then IsTerms (λ ts. Led (mark kind.CloseParenthesis) (λ _. Only (record { terms = ts }))))))
 
 -- "import" NAME { separator print }
 abbrev pub IsClient : Rule Client
-IsClient = Led (word (codes "import")) (λ _. Led name (λ n. Then (Repeat (IsFurther IsPrint)) (λ ps. Only (record { «import» = n; prints = ps }))))
+IsClient = Led (word kind.Keyword (codes "import")) (λ _. Led name (λ n. Then (Repeat (IsFurther IsPrint)) (λ ps. Only (record { «import» = n; prints = ps }))))
 
 -- The text is tokens that are this library.
 pub record SpellsLibrary (text : List ℕ) (functions : List Function) : Type 0 where

@@ -1,13 +1,13 @@
 -- Reading the first form from the left.
 use Rattle.std.specs.Prelude.{List, ◌∷◌, Bool, true, false, codes}
 use Rattle.evo_base.specs.declared.token.TokenKind.TheVariants as kind
-use Rattle.evo_tree.specs.declared.Access.{Access}
-use Rattle.evo_tree.specs.declared.Access.TheVariants as access
-use Rattle.evo_tree.specs.declared.Function.{Function}
-use Rattle.evo_tree.specs.declared.Term.{Term}
-use Rattle.evo_tree.specs.declared.Term.TheVariants as tree
-use Rattle.evo_tree.specs.declared.Print.{Print}
-use Rattle.evo_tree.specs.declared.Client.{Client}
+use Rattle.evo_first_form.specs.declared.Access.{Access}
+use Rattle.evo_first_form.specs.declared.Access.TheVariants as access
+use Rattle.evo_first_form.specs.declared.Function.{Function}
+use Rattle.evo_first_form.specs.declared.Term.{Term}
+use Rattle.evo_first_form.specs.declared.Term.TheVariants as tree
+use Rattle.evo_first_form.specs.declared.Print.{Print}
+use Rattle.evo_first_form.specs.declared.Client.{Client}
 use Rattle.evo_combinators.specs.Reader.{Reader as ReaderOf, ◌>>=◌, pure, alt, one, many}
 use Rattle.evo_combinators.specs.Guard.{ahead, run}
 use Rattle.evo_parse.specs.declared.lexeme.Item.{Item}
@@ -45,31 +45,31 @@ unfoldable pub signature : Reader (Unit {0})
 signature = do
   _ ← one (mark kind.OpenParenthesis)
   _ ← one (mark kind.CloseParenthesis)
-  _ ← one (mark kind.Arrow)
-  _ ← one (word (codes "Int"))
+  _ ← one (word kind.Operator (codes "->"))
+  _ ← one (word kind.Identifier (codes "Int"))
   pure tt
 
 unfoldable pub body : Reader Term
 body = do
   _ ← one (mark kind.OpenBrace)
-  _ ← one (word (codes "return"))
+  _ ← one (word kind.Keyword (codes "return"))
   t ← ahead is_here >>= (λ _. term)
   _ ← one (mark kind.CloseBrace)
   pure t
 
 unfoldable pub inlinable : Reader Access
 inlinable = do
-  _ ← one (word (codes "inlinable"))
-  _ ← one (word (codes "public"))
+  _ ← one (word kind.Identifier (codes "inlinable"))
+  _ ← one (word kind.Keyword (codes "public"))
   pure access.Inlinable
 
 unfoldable pub access_of : Reader Access
-access_of = alt (word (codes "public")) (λ _. pure access.Public) (alt (mark kind.At) (λ _. inlinable) (pure access.Internal))
+access_of = alt (word kind.Keyword (codes "public")) (λ _. pure access.Public) (alt (mark kind.At) (λ _. inlinable) (pure access.Internal))
 
 unfoldable pub function : Reader Function
 function = do
   a ← access_of
-  _ ← one (word (codes "func"))
+  _ ← one (word kind.Keyword (codes "func"))
   n ← one name
   _ ← signature
   b ← body
@@ -83,7 +83,7 @@ terms = term >>= (λ t. many (mark kind.Comma) (λ _. term) >>= (λ ts. pure (t 
 
 unfoldable pub print : Reader Print
 print = do
-  _ ← one (word (codes "print"))
+  _ ← one (word kind.Identifier (codes "print"))
   _ ← ahead is_here
   _ ← one (mark kind.OpenParenthesis)
   ts ← terms
@@ -95,7 +95,7 @@ prints = items item.Print print false
 
 unfoldable pub client : Reader Client
 client = do
-  _ ← one (word (codes "import"))
+  _ ← one (word kind.Keyword (codes "import"))
   n ← one name
   ps ← prints
   pure (record { «import» = n; prints = ps })

@@ -11,7 +11,7 @@ use crate::lexeme::Item;
 use crate::term::term;
 use evo_base::{List, TokenKind};
 use evo_combinators::ReadError;
-use evo_tree::{Client, Print, Term};
+use evo_first_form::{Client, Print, Term};
 use std::alloc::Global;
 
 // The first term and those behind commas.
@@ -41,7 +41,7 @@ fn terms(alloc: Global, tokens: &mut Cursor<'_>) -> Result<List<Term>, ReadError
 fn print(alloc: Global, tokens: &mut Cursor<'_>) -> Result<Print, ReadError>
     ensures { Reads (spec.print tokens.old) result tokens.new }
 {
-    tokens.expect_word(b"print")?;
+    tokens.expect_word(TokenKind::Identifier, b"print")?;
     tokens.expect_here()?;
     tokens.expect_mark(TokenKind::OpenParenthesis)?;
     let terms = terms(alloc, tokens)?;
@@ -75,7 +75,7 @@ fn prints(alloc: Global, tokens: &mut Cursor<'_>) -> Result<List<Print>, ReadErr
 pub fn client(alloc: Global, tokens: &mut Cursor<'_>) -> Result<Client, ReadError>
     ensures { Reads (spec.client tokens.old) result tokens.new }
 {
-    tokens.expect_word(b"import")?;
+    tokens.expect_word(TokenKind::Keyword, b"import")?;
     let import = tokens.expect_name(alloc)?;
     let prints = prints(alloc, tokens)?;
     Ok(Client { import, prints })

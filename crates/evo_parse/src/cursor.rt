@@ -113,13 +113,13 @@ impl<'a> Cursor<'a> {
         Some(found)
     }
 
-    /// Takes this very word.
+    /// Takes a token of this kind with this very text.
     #[tactic(auto, unfolding(evo_combinators::specs::Reader::lead))]
-    pub fn word(&mut self, word: &[u8]) -> Option<()>
-        ensures { Eats (lead (spec.word word.now) self.old) result self.old self.new }
+    pub fn word(&mut self, kind: TokenKind, word: &[u8]) -> Option<()>
+        ensures { Eats (lead (spec.word kind word.now) self.old) result self.old self.new }
     {
         let (first, rest) = self.next()?;
-        let found = first.word(word)?;
+        let found = first.word(kind, word)?;
         *self = rest;
         Some(found)
     }
@@ -162,11 +162,11 @@ impl<'a> Cursor<'a> {
         }
     }
 
-    /// Takes this very word, or refuses the first token.
-    pub fn expect_word(&mut self, word: &[u8]) -> Result<(), ReadError>
-        ensures { Reads (one (spec.word word.now) self.old) result self.new }
+    /// Takes a token of this kind with this very text, or refuses the first token.
+    pub fn expect_word(&mut self, kind: TokenKind, word: &[u8]) -> Result<(), ReadError>
+        ensures { Reads (one (spec.word kind word.now) self.old) result self.new }
     {
-        match self.word(word) {
+        match self.word(kind, word) {
             Some(()) => Ok(()),
             None => Err(self.refused()),
         }

@@ -1,8 +1,8 @@
 //! What the definitions of the grammar say by themselves.
 
 ghost use Rattle.std.specs.Prelude.{◌≡◌, ℕ, List};
-ghost use Rattle.evo_tree.specs.declared.Function.{Function};
-ghost use Rattle.evo_tree.specs.declared.Client.{Client};
+ghost use Rattle.evo_first_form.specs.declared.Function.{Function};
+ghost use Rattle.evo_first_form.specs.declared.Client.{Client};
 ghost use Rattle.evo_parse.specs.Grammar.{SpellsLibrary, SpellsClient};
 ghost use Rattle.evo_parse.specs.Facts.{LibraryFacts, ClientFacts};
 

@@ -5,6 +5,7 @@ ghost use Rattle.evo_parse.specs.Pieces as spec;
 
 use crate::words::is_name;
 use evo_base::{Name, TokenKind};
+use evo_lex::integer_value;
 use std::alloc::{AllocError, Global};
 use std::marker::Model;
 
@@ -35,9 +36,9 @@ fn number(kind: TokenKind) -> u8
     ensures { result ≡ spec.number_of kind }
 {
     match kind {
-        TokenKind::Word => 0,
+        TokenKind::Identifier => 0,
         TokenKind::Integer => 1,
-        TokenKind::Arrow => 2,
+        TokenKind::Keyword => 2,
         TokenKind::OpenParenthesis => 3,
         TokenKind::CloseParenthesis => 4,
         TokenKind::OpenBrace => 5,
@@ -46,22 +47,12 @@ fn number(kind: TokenKind) -> u8
         TokenKind::Dot => 8,
         TokenKind::Semicolon => 9,
         TokenKind::At => 10,
+        TokenKind::Underscore => 11,
+        TokenKind::String => 12,
+        TokenKind::Operator => 13,
+        TokenKind::Colon => 14,
+        TokenKind::Hash => 15,
     }
-}
-
-// The value of decimal digits, where it is below 2^63.
-fn decimal(digits: &[u8]) -> Option<u64>
-    ensures { result ≡ spec.when (nat_lt (spec.decimal digits.now) (2 ^ 63)) (spec.decimal digits.now) }
-{
-    let mut value: u64 = 0;
-    for c in digits {
-        let digit = u64::from(c.saturating_sub(b'0'));
-        if value > (0x7fff_ffff_ffff_ffff - digit) / 10 {
-            return None;
-        }
-        value = value * 10 + digit;
-    }
-    Some(value)
 }
 
 impl<'a> Lexeme<'a> {
@@ -77,10 +68,10 @@ impl<'a> Lexeme<'a> {
         number(self.kind) == number(kind)
     }
 
-    fn is_word(&self, word: &[u8]) -> bool
-        ensures { result ≡ spec.is_word word.now self.now }
+    fn is_word(&self, kind: TokenKind, word: &[u8]) -> bool
+        ensures { result ≡ spec.is_word kind word.now self.now }
     {
-        self.is_kind(TokenKind::Word) && self.text == word
+        self.is_kind(kind) && self.text == word
     }
 
     /// A token of this kind.
@@ -91,12 +82,16 @@ impl<'a> Lexeme<'a> {
         if self.is_kind(kind) { Some(()) } else { None }
     }
 
-    /// This very word.
+    /// This very text, of a token of this kind.
     #[tactic(auto, unfolding(crate::specs::Pieces::word))]
-    pub fn word(&self, word: &[u8]) -> Option<()>
-        ensures { result ≡ spec.word word.now self.now }
+    pub fn word(&self, kind: TokenKind, word: &[u8]) -> Option<()>
+        ensures { result ≡ spec.word kind word.now self.now }
     {
-        if self.is_word(word) { Some(()) } else { None }
+        if self.is_word(kind, word) {
+            Some(())
+        } else {
+            None
+        }
     }
 
     /// An integer below 2^63.
@@ -104,10 +99,12 @@ impl<'a> Lexeme<'a> {
     pub fn integer(&self) -> Option<u64>
         ensures { result ≡ spec.integer self.now }
     {
-        if self.is_kind(TokenKind::Integer) {
-            decimal(self.text)
-        } else {
-            None
+        if !self.is_kind(TokenKind::Integer) {
+            return None;
+        }
+        match integer_value(self.text) {
+            Some(value) if value < 0x8000_0000_0000_0000 => Some(value),
+            _ => None,
         }
     }
 
@@ -125,9 +122,11 @@ impl<'a> Lexeme<'a> {
     {
         match item {
             Item::Function => {
-                self.is_word(b"func") || self.is_word(b"public") || self.is_kind(TokenKind::At)
+                self.is_word(TokenKind::Keyword, b"func")
+                    || self.is_word(TokenKind::Keyword, b"public")
+                    || self.is_kind(TokenKind::At)
             }
-            Item::Print => self.is_word(b"print"),
+            Item::Print => self.is_word(TokenKind::Identifier, b"print"),
         }
     }
 
@@ -147,7 +146,7 @@ impl<'a> Lexeme<'a> {
     pub fn name(&self, alloc: Global) -> Result<Option<Name>, AllocError>
         ensures { IfOk result (λ found. found ≡ spec.name self.now) }
     {
-        if self.is_kind(TokenKind::Word) && is_name(self.text) {
+        if self.is_kind(TokenKind::Identifier) && is_name(self.text) {
             Ok(Some(Name::from_vec(self.text.to_vec(alloc)?)))
         } else {
             Ok(None)

@@ -17,4 +17,4 @@ mod words;
 
 pub use laws::{client_facts, library_facts, one_client, one_library};
 pub use read::{read_client, read_library};
-pub use words::{KEYWORDS, is_identifier, is_keyword, is_name};
+pub use words::is_name;

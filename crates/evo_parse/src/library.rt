@@ -9,7 +9,7 @@ use crate::lexeme::Item;
 use crate::term::term;
 use evo_base::{List, TokenKind};
 use evo_combinators::ReadError;
-use evo_tree::{Access, Function, Term};
+use evo_first_form::{Access, Function, Term};
 use std::alloc::Global;
 
 #[tactic(auto, unfolding(crate::specs::Read::signature))]
@@ -18,8 +18,8 @@ fn signature(tokens: &mut Cursor<'_>) -> Result<(), ReadError>
 {
     tokens.expect_mark(TokenKind::OpenParenthesis)?;
     tokens.expect_mark(TokenKind::CloseParenthesis)?;
-    tokens.expect_mark(TokenKind::Arrow)?;
-    tokens.expect_word(b"Int")?;
+    tokens.expect_word(TokenKind::Operator, b"->")?;
+    tokens.expect_word(TokenKind::Identifier, b"Int")?;
     Ok(())
 }
 
@@ -28,7 +28,7 @@ fn body(alloc: Global, tokens: &mut Cursor<'_>) -> Result<Term, ReadError>
     ensures { Reads (spec.body tokens.old) result tokens.new }
 {
     tokens.expect_mark(TokenKind::OpenBrace)?;
-    tokens.expect_word(b"return")?;
+    tokens.expect_word(TokenKind::Keyword, b"return")?;
     tokens.expect_here()?;
     let term = term(alloc, tokens)?;
     tokens.expect_mark(TokenKind::CloseBrace)?;
@@ -40,8 +40,8 @@ fn body(alloc: Global, tokens: &mut Cursor<'_>) -> Result<Term, ReadError>
 fn inlinable(tokens: &mut Cursor<'_>) -> Result<Access, ReadError>
     ensures { Reads (spec.inlinable tokens.old) result tokens.new }
 {
-    tokens.expect_word(b"inlinable")?;
-    tokens.expect_word(b"public")?;
+    tokens.expect_word(TokenKind::Identifier, b"inlinable")?;
+    tokens.expect_word(TokenKind::Keyword, b"public")?;
     Ok(Access::Inlinable)
 }
 
@@ -49,7 +49,7 @@ fn inlinable(tokens: &mut Cursor<'_>) -> Result<Access, ReadError>
 fn access(tokens: &mut Cursor<'_>) -> Result<Access, ReadError>
     ensures { Reads (spec.access_of tokens.old) result tokens.new }
 {
-    if let Some(()) = tokens.word(b"public") {
+    if let Some(()) = tokens.word(TokenKind::Keyword, b"public") {
         return Ok(Access::Public);
     }
     match tokens.mark(TokenKind::At) {
@@ -63,7 +63,7 @@ fn function(alloc: Global, tokens: &mut Cursor<'_>) -> Result<Function, ReadErro
     ensures { Reads (spec.function tokens.old) result tokens.new }
 {
     let access = access(tokens)?;
-    tokens.expect_word(b"func")?;
+    tokens.expect_word(TokenKind::Keyword, b"func")?;
     let name = tokens.expect_name(alloc)?;
     signature(tokens)?;
     let body = body(alloc, tokens)?;

@@ -13,18 +13,19 @@ use crate::cursor::Cursor;
 use crate::library::library;
 use evo_base::{List, Token};
 use evo_combinators::ReadError;
+use evo_first_form::{Client, Function};
 use evo_lex::{LexFault, lex};
-use evo_tree::{Client, Function};
 use std::alloc::{AllocError, Global};
 
 // The tokens of a text, where it is tokens.
+#[tactic(auto, using(evo_lex::proofs::Cuts::fault_no_cut))]
 fn tokens_of(alloc: Global, text: &[u8]) -> Result<Option<Vec<Token>>, AllocError>
     requires { length text.now < 2 ^ 32 - 1 }
     ensures { IfOk result (λ found. MatchOption found ((tokens : List Token) → Cut text.now tokens → ⊥) (λ v. Cut text.now v.items)) }
 {
     match lex(alloc, text) {
         Ok(tokens) => Ok(Some(tokens)),
-        Err(LexFault::Bad) => Ok(None),
+        Err(LexFault::Bad { .. }) => Ok(None),
         Err(LexFault::Memory) => Err(AllocError),
     }
 }

@@ -7,7 +7,7 @@ ghost use Rattle.evo_parse.specs.Read as spec;
 use crate::cursor::Cursor;
 use evo_base::TokenKind;
 use evo_combinators::ReadError;
-use evo_tree::Term;
+use evo_first_form::Term;
 use std::alloc::Global;
 
 #[tactic(auto, unfolding(crate::specs::Read::call))]

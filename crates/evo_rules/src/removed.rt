@@ -2,12 +2,12 @@
 
 ghost use Rattle.std.specs.Prelude.{◌≡◌, IfOk};
 ghost use Rattle.evo_base.specs.Names.{AreDistinct};
-ghost use Rattle.evo_tree.specs.Interface.{declared_names};
-ghost use Rattle.evo_tree.specs.Rules.{removed, missing_from as the_missing};
+ghost use Rattle.evo_first_form.specs.Interface.{declared_names};
+ghost use Rattle.evo_first_form.specs.Rules.{removed, missing_from as the_missing};
 
 use evo_base::{Name, NameTable};
+use evo_first_form::{Declaration, Interface};
 use evo_iface::declared_table;
-use evo_tree::{Declaration, Interface};
 use std::alloc::{AllocError, Global};
 
 // Those of the declared names that the table does not have, in their order.

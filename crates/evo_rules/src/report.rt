@@ -1,7 +1,7 @@
 //! The lines of the report.
 
 ghost use Rattle.std.specs.Prelude.{◌≡◌, IfOk};
-ghost use Rattle.evo_tree.specs.Rules.{removed_line};
+ghost use Rattle.evo_first_form.specs.Rules.{removed_line};
 
 use evo_base::Name;
 use std::alloc::{AllocError, Global};

@@ -1,7 +1,7 @@
 use Rattle.std.proofs.Common.{◌+◌, ◌++◌, [], List, ℕ, drop, sym, ◌∙◌, ap, append_assoc}
 use Rattle.std.proofs.lemmas.List.{append-nil}
 use Rattle.evo_machine.specs.declared.image.Function.{Function}
-use Rattle.evo_tree.specs.Copies.{copied_body}
+use Rattle.evo_first_form.specs.Copies.{copied_body}
 use Rattle.evo_build.specs.Objects.{copy_functions, with_copy}
 use Rattle.evo_build.proofs.Parts.{copy-first, next_name, none_left}
 use Rattle.evo_build.proofs.client.copy_functions_of.Goals as goal

@@ -1,7 +1,7 @@
 use Rattle.std.proofs.Common.{◌+◌, ◌++◌, List, ℕ, drop, sym, ◌∙◌, ap, append_assoc}
 use Rattle.std.proofs.lemmas.List.{append-nil}
-use Rattle.evo_tree.specs.Calls.{calls_of_body}
-use Rattle.evo_tree.specs.Copies.{copied_body, calls_of_copies}
+use Rattle.evo_first_form.specs.Calls.{calls_of_body}
+use Rattle.evo_first_form.specs.Copies.{copied_body, calls_of_copies}
 use Rattle.evo_build.specs.Objects.{needed}
 use Rattle.evo_build.proofs.Parts.{needed-append, next_name, none_left}
 use Rattle.evo_build.proofs.imports.add_copies.Goals as goal

@@ -1,5 +1,5 @@
 use Rattle.std.proofs.Common.{◌≡◌, ◌++◌, drop}
-use Rattle.evo_tree.specs.Copies.{calls_of_copies}
+use Rattle.evo_first_form.specs.Copies.{calls_of_copies}
 use Rattle.evo_build.specs.Objects.{needed}
 use Rattle.evo_build.proofs.imports.add_copies.Given as goal
 

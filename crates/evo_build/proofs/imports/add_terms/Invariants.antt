@@ -1,5 +1,5 @@
 use Rattle.std.proofs.Common.{◌≡◌, ◌++◌, drop}
-use Rattle.evo_tree.specs.Calls.{calls_of_terms}
+use Rattle.evo_first_form.specs.Calls.{calls_of_terms}
 use Rattle.evo_build.specs.Objects.{needed}
 use Rattle.evo_build.proofs.imports.add_terms.Given as goal
 

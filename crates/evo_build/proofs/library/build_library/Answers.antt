@@ -1,6 +1,6 @@
 use Rattle.std.proofs.Common.{◌≡◌, List, [], ◌++◌, drop, subst, ap, ◌∙◌}
 use Rattle.std.proofs.lemmas.List.{append-nil, drop_all}
-use Rattle.evo_tree.specs.declared.Function.{Function as Declared}
+use Rattle.evo_first_form.specs.declared.Function.{Function as Declared}
 use Rattle.evo_build.specs.Objects.{library_functions}
 use Rattle.evo_build.specs.Works.{AreTimed}
 use Rattle.evo_build.proofs.Images.{library-timed}

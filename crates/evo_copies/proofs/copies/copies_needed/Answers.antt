@@ -1,5 +1,5 @@
 use Rattle.std.proofs.Common.{rules, ◌≡◌, [], subst, sym}
-use Rattle.evo_tree.specs.Calls.{calls_of}
+use Rattle.evo_first_form.specs.Calls.{calls_of}
 use Rattle.evo_copies.specs.Reach.{reached, AreInlinable}
 use Rattle.evo_copies.proofs.Facts.{reached-inlinable}
 use Rattle.evo_copies.proofs.copies.copies_needed.Goals as goal

@@ -1,7 +1,7 @@
 use Rattle.std.proofs.Common.{◌≡◌, ◌+◌, List, drop, sym, ◌∙◌, ap}
 use Rattle.evo_base.proofs.Loops.{cut}
-use Rattle.evo_tree.specs.declared.Print.{Print}
-use Rattle.evo_tree.specs.Calls.{calls_of, calls_of_terms}
+use Rattle.evo_first_form.specs.declared.Print.{Print}
+use Rattle.evo_first_form.specs.Calls.{calls_of, calls_of_terms}
 use Rattle.evo_copies.specs.Reach.{reached}
 use Rattle.evo_copies.proofs.Facts.{reached-append}
 use Rattle.evo_copies.proofs.copies.reach_prints.Goals as goal

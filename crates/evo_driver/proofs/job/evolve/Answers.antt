@@ -1,7 +1,7 @@
 use Rattle.std.proofs.Common.{◌≡◌, List, ℕ, refl, inl, inr, subst}
 use Rattle.evo_build.specs.Meaning.{Ran, run_of}
-use Rattle.evo_tree.specs.declared.Interface.{Interface}
-use Rattle.evo_tree.specs.Rules.{removed_lines}
+use Rattle.evo_first_form.specs.declared.Interface.{Interface}
+use Rattle.evo_first_form.specs.Rules.{removed_lines}
 use Rattle.evo_driver.specs.Answer.{Answer, AnswersRun, refused_answer, report_answer, unread_answer}
 use Rattle.evo_driver.specs.Answer.Answers.{ran, refused}
 use Rattle.evo_driver.specs.Files.{name_of}

@@ -1,5 +1,5 @@
 use Rattle.std.proofs.Common.{refl}
-use Rattle.evo_tree.specs.Rules.{removed_lines}
+use Rattle.evo_first_form.specs.Rules.{removed_lines}
 use Rattle.evo_driver.specs.Answer.{report_answer}
 use Rattle.evo_driver.proofs.report.report.Goals as goal
 

@@ -1,6 +1,6 @@
 use Rattle.std.proofs.Common.{◌≡◌, ◌+◌, ◌++◌, List, ℕ, drop, ap, sym, refl, ◌∙◌, Ok}
 use Rattle.std.proofs.lemmas.List.{drop_all}
-use Rattle.evo_tree.specs.Rules.{removed_lines}
+use Rattle.evo_first_form.specs.Rules.{removed_lines}
 use Rattle.evo_driver.proofs.Filters.{cut}
 use Rattle.evo_driver.proofs.Gives.{Appends-none, WritesAll-then}
 use Rattle.evo_driver.proofs.report.write_lines.Goals as goal

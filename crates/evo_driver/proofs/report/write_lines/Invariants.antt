@@ -1,5 +1,5 @@
 use Rattle.std.proofs.Common.{drop, Result}
-use Rattle.evo_tree.specs.Rules.{removed_lines}
+use Rattle.evo_first_form.specs.Rules.{removed_lines}
 use Rattle.evo_driver.specs.declared.reply.Halt.{Halt}
 use Rattle.evo_driver.specs.Top.{WritesAll}
 use Rattle.evo_driver.proofs.report.write_lines.Given as goal

@@ -1,5 +1,5 @@
 use Rattle.std.proofs.Common.{drop}
-use Rattle.evo_tree.specs.Accepted.{AreBodiesKnown}
+use Rattle.evo_first_form.specs.Accepted.{AreBodiesKnown}
 use Rattle.evo_front.proofs.calls.knows_bodies.Given as goal
 
 -- all bodies are known just where those that are left are

@@ -1,5 +1,5 @@
 use Rattle.std.proofs.Common.{rules, ◌≡◌, false, subst}
-use Rattle.evo_tree.specs.Accepted.{IsAcceptedClient}
+use Rattle.evo_first_form.specs.Accepted.{IsAcceptedClient}
 use Rattle.evo_front.proofs.client.accept_client.Goals as goal
 
 pub returns-in_default : goal.returns-in_default

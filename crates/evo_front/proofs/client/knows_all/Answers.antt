@@ -1,6 +1,6 @@
 use Rattle.std.proofs.Common.{rules, true, false, ◌≡◌, ◌+◌, ◌++◌, drop, ap, sym, subst}
-use Rattle.evo_tree.specs.Calls.{calls_of, calls_of_terms}
-use Rattle.evo_tree.specs.Accepted.{AreKnown}
+use Rattle.evo_first_form.specs.Calls.{calls_of, calls_of_terms}
+use Rattle.evo_first_form.specs.Accepted.{AreKnown}
 use Rattle.evo_base.proofs.Loops.{cut}
 use Rattle.evo_front.proofs.Known.{known-both, known-front, known-back}
 use Rattle.evo_front.proofs.client.knows_all.Goals as goal

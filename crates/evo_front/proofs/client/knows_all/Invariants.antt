@@ -1,6 +1,6 @@
 use Rattle.std.proofs.Common.{drop}
-use Rattle.evo_tree.specs.Calls.{calls_of}
-use Rattle.evo_tree.specs.Accepted.{AreKnown}
+use Rattle.evo_first_form.specs.Calls.{calls_of}
+use Rattle.evo_first_form.specs.Accepted.{AreKnown}
 use Rattle.evo_front.proofs.client.knows_all.Given as goal
 
 -- all calls are known just where those that are left are

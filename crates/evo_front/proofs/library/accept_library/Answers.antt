@@ -1,6 +1,6 @@
 use Rattle.std.proofs.Common.{rules, ◌≡◌, subst, sym, true, false}
-use Rattle.evo_tree.specs.Interface.{interface_of}
-use Rattle.evo_tree.specs.Accepted.{IsAcceptedLibrary, IsAcceptedInterface}
+use Rattle.evo_first_form.specs.Interface.{interface_of}
+use Rattle.evo_first_form.specs.Accepted.{IsAcceptedLibrary, IsAcceptedInterface}
 use Rattle.evo_front.proofs.Plain.{readable}
 use Rattle.evo_front.proofs.Visible.{accepted_interface}
 use Rattle.evo_front.proofs.library.accept_library.Goals as goal

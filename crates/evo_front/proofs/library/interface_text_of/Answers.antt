@@ -1,5 +1,5 @@
 use Rattle.std.proofs.Common.{rules, ◌≡◌, ◌≤◌, ◌∙◌, subst, length, List, ℕ}
-use Rattle.evo_tree.specs.Interface.{interface_of}
+use Rattle.evo_first_form.specs.Interface.{interface_of}
 use Rattle.evo_iface.specs.Text.{interface_text}
 use Rattle.evo_front.specs.Texts.{interface_limit}
 use Rattle.evo_front.proofs.Within.{within}

@@ -1,8 +1,8 @@
 use Rattle.std.proofs.Common.{rules, ◌≡◌, ◌+◌, ℕ, List, [], ◌∷◌, ◌++◌, true, false, drop, ap, ◌∙◌, sym, subst, append_assoc}
 use Rattle.evo_base.specs.Names.{AreDistinct}
-use Rattle.evo_tree.specs.declared.Function.{Function}
-use Rattle.evo_tree.specs.Interface.{names_of}
-use Rattle.evo_tree.specs.Accepted.{AreFree, is_taken}
+use Rattle.evo_first_form.specs.declared.Function.{Function}
+use Rattle.evo_first_form.specs.Interface.{names_of}
+use Rattle.evo_first_form.specs.Accepted.{AreFree, is_taken}
 use Rattle.evo_base.proofs.Loops.{cut, not_distinct}
 use Rattle.evo_front.proofs.Free.{free-push, not_free}
 use Rattle.evo_front.proofs.names.free_names.Goals as goal

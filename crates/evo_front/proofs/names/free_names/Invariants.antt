@@ -1,7 +1,7 @@
 use Rattle.std.proofs.Common.{◌≡◌, ◌++◌, drop}
 use Rattle.evo_base.specs.Names.{AreDistinct}
-use Rattle.evo_tree.specs.Interface.{names_of}
-use Rattle.evo_tree.specs.Accepted.{AreFree}
+use Rattle.evo_first_form.specs.Interface.{names_of}
+use Rattle.evo_first_form.specs.Accepted.{AreFree}
 use Rattle.evo_front.proofs.names.free_names.Given as goal
 
 -- the names so far are free and distinct, and with those that are left they are all

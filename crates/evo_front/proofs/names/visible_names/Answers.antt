@@ -1,6 +1,6 @@
 use Rattle.std.proofs.Common.{◌≡◌, ◌+◌, ℕ, List, ◌∷◌, ◌++◌, drop, ap, ◌∙◌}
-use Rattle.evo_tree.specs.declared.Function.{Function}
-use Rattle.evo_tree.specs.Interface.{declared_names, declarations_of}
+use Rattle.evo_first_form.specs.declared.Function.{Function}
+use Rattle.evo_first_form.specs.Interface.{declared_names, declarations_of}
 use Rattle.evo_base.proofs.Loops.{cut, inserted}
 use Rattle.evo_front.proofs.Visible.{visible-cons}
 use Rattle.evo_front.proofs.names.visible_names.Goals as goal

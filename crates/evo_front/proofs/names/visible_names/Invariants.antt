@@ -1,5 +1,5 @@
 use Rattle.std.proofs.Common.{◌≡◌, ◌++◌, drop}
-use Rattle.evo_tree.specs.Interface.{declared_names, declarations_of}
+use Rattle.evo_first_form.specs.Interface.{declared_names, declarations_of}
 use Rattle.evo_front.proofs.names.visible_names.Given as goal
 
 -- the names so far and those that are left are all

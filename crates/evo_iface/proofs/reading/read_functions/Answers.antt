@@ -1,6 +1,6 @@
 use Rattle.std.proofs.Common.{rules, ◌≡◌, ◌≢◌, List, ℕ, [], ◌++◌, ◌∷◌, sym, ◌∙◌, ap, subst, append_assoc}
 use Rattle.std.proofs.lemmas.List.{append-nil}
-use Rattle.evo_tree.specs.declared.Declaration.{Declaration}
+use Rattle.evo_first_form.specs.declared.Declaration.{Declaration}
 use Rattle.evo_iface.specs.Text.{function_text, functions_text}
 use Rattle.evo_iface.proofs.Lines.{no_functions, first_function, empty_functions, not_empty, is_empty}
 use Rattle.evo_iface.proofs.reading.read_functions.Goals as goal

@@ -1,5 +1,5 @@
 use Rattle.std.proofs.Common.{◌≡◌, List, ◌++◌, length}
-use Rattle.evo_tree.specs.declared.Declaration.{Declaration}
+use Rattle.evo_first_form.specs.declared.Declaration.{Declaration}
 use Rattle.evo_iface.specs.Text.{ArePlain, functions_text}
 use Rattle.evo_iface.proofs.reading.read_functions.Given as goal
 

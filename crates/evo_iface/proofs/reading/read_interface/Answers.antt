@@ -1,5 +1,5 @@
 use Rattle.std.proofs.Common.{◌≡◌, List, ℕ, ◌++◌, sym, ◌∙◌, ap}
-use Rattle.evo_tree.specs.declared.Interface.{Interface}
+use Rattle.evo_first_form.specs.declared.Interface.{Interface}
 use Rattle.evo_iface.specs.Text.{head_text, functions_text}
 use Rattle.evo_iface.specs.declared.texts.TheConstants.{BEFORE_MODULE, BEHIND_MODULE}
 use Rattle.evo_iface.proofs.Lines.{three}

@@ -1,6 +1,6 @@
 use Rattle.std.proofs.Common.{◌≡◌, ◌+◌, List, ◌∷◌, ◌++◌, drop, ap, ◌∙◌}
-use Rattle.evo_tree.specs.declared.Declaration.{Declaration}
-use Rattle.evo_tree.specs.Interface.{declared_names}
+use Rattle.evo_first_form.specs.declared.Declaration.{Declaration}
+use Rattle.evo_first_form.specs.Interface.{declared_names}
 use Rattle.evo_base.proofs.Loops.{cut, inserted}
 use Rattle.evo_iface.proofs.table.declared_table.Goals as goal
 

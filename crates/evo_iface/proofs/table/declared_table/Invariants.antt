@@ -1,5 +1,5 @@
 use Rattle.std.proofs.Common.{◌≡◌, ◌++◌, drop}
-use Rattle.evo_tree.specs.Interface.{declared_names}
+use Rattle.evo_first_form.specs.Interface.{declared_names}
 use Rattle.evo_iface.proofs.table.declared_table.Given as goal
 
 -- the names so far and those that are left are all

@@ -1,6 +1,6 @@
 use Rattle.std.proofs.Common.{◌≡◌, ◌++◌, drop}
 use Rattle.evo_iface.specs.Text.{functions_text}
-use Rattle.evo_tree.specs.Interface.{declarations_of}
+use Rattle.evo_first_form.specs.Interface.{declarations_of}
 use Rattle.evo_iface.proofs.writing.write_functions.Given as goal
 
 -- the text so far and the lines of the functions that are left

@@ -1,6 +1,6 @@
 use Rattle.std.proofs.Common.{◌≡◌, ℕ, ◌-◌, ◌+◌, List, [], ◌∷◌, ◌++◌, sym, ap, ap₂, ◌∙◌, rules}
 use Rattle.evo_base.specs.declared.token.TokenKind.TheVariants.{Comma}
-use Rattle.evo_tree.specs.declared.Term.{Term}
+use Rattle.evo_first_form.specs.declared.Term.{Term}
 use Rattle.evo_combinators.specs.Reader.{many}
 use Rattle.evo_combinators.proofs.Turns.{After, front_one, turn_begin, turn_more}
 use Rattle.evo_parse.specs.Pieces.{mark}

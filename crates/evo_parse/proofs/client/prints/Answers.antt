@@ -1,5 +1,5 @@
 use Rattle.std.proofs.Common.{◌≡◌, ℕ, ◌-◌, ◌+◌, Bool, false, List, [], ◌∷◌, ◌++◌, sym, ap, ap₂, ◌∙◌, rules}
-use Rattle.evo_tree.specs.declared.Print.{Print}
+use Rattle.evo_first_form.specs.declared.Print.{Print}
 use Rattle.evo_combinators.proofs.RunTurns.{RunAfter, run_init, run_more}
 use Rattle.evo_parse.specs.declared.lexeme.Item.TheVariants as item
 use Rattle.evo_parse.specs.Pieces.{leads}

@@ -1,5 +1,5 @@
 use Rattle.std.proofs.Common.{List, Some, None, sym, ◌∙◌, subst, arith}
-use Rattle.evo_tree.specs.declared.Client.{Client}
+use Rattle.evo_first_form.specs.declared.Client.{Client}
 use Rattle.evo_combinators.specs.Rule.{IsOnly}
 use Rattle.evo_combinators.proofs.Sequences.{whole_found, whole_rest, whole_refused}
 use Rattle.evo_parse.specs.Pieces.{Piece}

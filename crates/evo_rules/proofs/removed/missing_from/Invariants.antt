@@ -1,6 +1,6 @@
 use Rattle.std.proofs.Common.{◌≡◌, ◌++◌, drop}
-use Rattle.evo_tree.specs.Interface.{declared_names}
-use Rattle.evo_tree.specs.Rules.{missing_from}
+use Rattle.evo_first_form.specs.Interface.{declared_names}
+use Rattle.evo_first_form.specs.Rules.{missing_from}
 use Rattle.evo_rules.proofs.removed.missing_from.Given as goal
 
 -- what is missing so far, and what is missing of those that are left

@@ -1,7 +1,7 @@
 use Rattle.std.proofs.Common.{◌≡◌}
 use Rattle.std.specs.List.{each_same}
 use Rattle.std.proofs.lemmas.Result.{IfOk-weaker}
-use Rattle.evo_tree.specs.Rules.{removed_line}
+use Rattle.evo_first_form.specs.Rules.{removed_line}
 use Rattle.evo_rules.proofs.report.report_line.Goals as goal
 
 pub returns : goal.returns

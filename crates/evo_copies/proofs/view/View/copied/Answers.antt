@@ -1,8 +1,8 @@
 use Rattle.std.proofs.Common.{rules, ◌≡◌, Some, None, length, ◌<◌, List, sym, ◌∙◌, ap}
 use Rattle.evo_base.specs.Names.{position_of}
-use Rattle.evo_tree.specs.declared.Declaration.{Declaration}
-use Rattle.evo_tree.specs.Interface.{declared_names}
-use Rattle.evo_tree.specs.Copies.{copied_body}
+use Rattle.evo_first_form.specs.declared.Declaration.{Declaration}
+use Rattle.evo_first_form.specs.Interface.{declared_names}
+use Rattle.evo_first_form.specs.Copies.{copied_body}
 use Rattle.evo_copies.proofs.Facts.{no_body, at_place, within}
 use Rattle.evo_copies.proofs.view.View.copied.Goals as goal
 

@@ -1,0 +1,5 @@
+pub mod Interface
+pub mod Calls
+pub mod Copies
+pub mod Accepted
+pub mod Rules
