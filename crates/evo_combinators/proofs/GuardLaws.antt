@@ -17,12 +17,13 @@ module _ {T B : Type 0} (n : ℕ) (Stop : Option T → Type 0) (c : List T → B
     (apart_p : (us rest : List T) (b : B) → S us b → Stop (first rest) → c (us ++ rest) ≡ true)
     (apart_r : (us rest : List T) (b : B) → R us b → Stop (first rest) → c (us ++ rest) ≡ false)
     (keep_p : (us rest more : List T) (b : B) → S us b → c (us ++ rest) ≡ true → Like rest more → c (us ++ more) ≡ true)
-    (keep_r : (us rest more : List T) (b : B) → R us b → c (us ++ rest) ≡ false → Like rest more → c (us ++ more) ≡ false)
+    (keep_r : (us rest more : List T) (b : B) → R us b → c (us ++ rest) ≡ false → Like rest more → r (us ++ more) ≡ Ok (b, more) → c (us ++ more) ≡ false)
     (stay_p : (us rest more : List T) → length (us ++ rest) ≤ n → p (us ++ rest) ≡ Err (Grammar (length rest)) → c (us ++ rest) ≡ true → Like rest more →
     (c (us ++ more) ≡ true) ⊎ ((c (us ++ more) ≡ false) × (r (us ++ more) ≡ Err (Grammar (length more)))))
-    (stay_r : (us rest more : List T) → r (us ++ rest) ≡ Err (Grammar (length rest)) → c (us ++ rest) ≡ false → Like rest more → c (us ++ more) ≡ false)
+    (stay_r : (us rest more : List T) → r (us ++ rest) ≡ Err (Grammar (length rest)) → c (us ++ rest) ≡ false → Like rest more → r (us ++ more) ≡ Err (Grammar (length more)) → c (us ++ more) ≡ false)
     (deep_p : (us rest more : List T) (t : T) → p (us ++ t ∷ rest) ≡ Err (Deep (suc (length rest))) → c (us ++ t ∷ rest) ≡ true → c (us ++ t ∷ more) ≡ true)
-    (deep_r : (us rest more : List T) (t : T) → r (us ++ t ∷ rest) ≡ Err (Deep (suc (length rest))) → c (us ++ t ∷ rest) ≡ false → c (us ++ t ∷ more) ≡ false) where
+    (deep_r : (us rest more : List T) (t : T) → r (us ++ t ∷ rest) ≡ Err (Deep (suc (length rest))) → c (us ++ t ∷ rest) ≡ false → r (us ++ t ∷ more) ≡ Err (Deep (suc (length more))) →
+    c (us ++ t ∷ more) ≡ false) where
   yes : (ts : List T) → c ts ≡ true → choose c p r ts ≡ p ts
   yes ts e = ap (λ b. cond b (p ts) (r ts)) e
 
@@ -41,7 +42,7 @@ module _ {T B : Type 0} (n : ℕ) (Stop : Option T → Type 0) (c : List T → B
         (us, cut, inl s, λ more all like. yes (us ++ more) (keep_p us rest more b s (subst (λ x. c x ≡ true) cut is) like) ∙ again more all like)
     | inr is ↦
         let (us, cut, s, again) = right_r.sound ts rest b fits (sym (no ts is) ∙ e) in
-        (us, cut, inr s, λ more all like. no (us ++ more) (keep_r us rest more b s (subst (λ x. c x ≡ false) cut is) like) ∙ again more all like)
+        (us, cut, inr s, λ more all like. no (us ++ more) (keep_r us rest more b s (subst (λ x. c x ≡ false) cut is) like (again more all like)) ∙ again more all like)
   ]
 
   complete : (us rest : List T) (b : B) → length (us ++ rest) ≤ n → Or S R us b → Stop (first rest) → choose c p r (us ++ rest) ≡ Ok (b, rest)
@@ -71,7 +72,7 @@ module _ {T B : Type 0} (n : ℕ) (Stop : Option T → Type 0) (c : List T → B
           rest,
           cut,
           maybe_by R' (Or S' R') (λ us b s. inr s) us goes,
-          λ more all like. no (us ++ more) (stay_r us rest more here (subst (λ x. c x ≡ false) cut is) like) ∙ again more all like,
+          λ more all like. no (us ++ more) (stay_r us rest more here (subst (λ x. c x ≡ false) cut is) like (again more all like)) ∙ again more all like,
         )
   ]
 
@@ -99,7 +100,7 @@ module _ {T B : Type 0} (n : ℕ) (Stop : Option T → Type 0) (c : List T → B
           cut,
           maybe_by R' (Or S' R') (λ us b s. inr s) us goes,
           goes_by R' (Or S' R') (λ us b s. inr s) (us ++ t ∷ []) opens,
-          λ more all. no (us ++ t ∷ more) (deep_r us rest more t here (subst (λ x. c x ≡ false) cut is)) ∙ again more all,
+          λ more all. no (us ++ t ∷ more) (deep_r us rest more t here (subst (λ x. c x ≡ false) cut is) (again more all)) ∙ again more all,
         )
   ]
 
@@ -190,9 +191,9 @@ module _ {T B : Type 0} (n : ℕ) (Stop : Option T → Type 0) (g : T → Bool) 
   pub right_on : Right n Stop (Or S R) (Or S' R') (on g p r)
   right_on = right_choose n Stop (starts g) S S' R R' p r right_p right_r
       (λ us rest b s stop. taken us rest b s) apart
-      (λ us rest more b s is like. taken us more b s) (λ us rest more b s is like. starts_still g us rest more is like)
-      on_stay (λ us rest more bad is like. starts_still g us rest more is like)
-      (λ us rest more t bad is. starts_deep g us rest more t true is) (λ us rest more t bad is. starts_deep g us rest more t false is)
+      (λ us rest more b s is like. taken us more b s) (λ us rest more b s is like good. starts_still g us rest more is like)
+      on_stay (λ us rest more bad is like bad'. starts_still g us rest more is like)
+      (λ us rest more t bad is. starts_deep g us rest more t true is) (λ us rest more t bad is bad'. starts_deep g us rest more t false is)
 
 -- ---- a look at the first token before a reader
 
@@ -359,7 +360,8 @@ module _ {T B : Type 0} (n : ℕ) (Stop : Option T → Type 0) (f g : T → Bool
   pub right_two : Right n Stop (Or S R) (Or S' R') (two f g p r)
   right_two = right_choose n Stop (starts_two f g) S S' R R' p r right_p right_r
       (λ us rest b s stop. two_taken us rest b s) apart
-      (λ us rest more b s is like. two_taken us more b s) two_keep two_stay_p two_stay_r two_deep_p two_deep_r
+      (λ us rest more b s is like. two_taken us more b s) (λ us rest more b s is like good. two_keep us rest more b s is like) two_stay_p
+      (λ us rest more bad is like bad'. two_stay_r us rest more bad is like) two_deep_p (λ us rest more t bad is bad'. two_deep_r us rest more t bad is)
 
 -- where the second token is another one
 pub two_taken_not : {T : Type 0} (f g : T → Bool) (t : T) (ts : List T) → (f t ≡ true → starts g ts ≡ false) → starts_two f g (t ∷ ts) ≡ false

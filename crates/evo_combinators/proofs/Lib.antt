@@ -10,3 +10,10 @@ pub mod FilterLaws
 pub mod Entered
 pub mod Copies
 pub mod Sequences
+pub mod Attempts
+pub mod TriesTurns
+pub mod ThreeLaws
+pub mod Labels
+pub mod Nesting
+pub mod Folds
+pub mod NestingTries

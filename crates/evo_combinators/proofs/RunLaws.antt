@@ -13,7 +13,7 @@ module _ {T B St : Type 0} (Stop StopQ : Option T → Type 0) (g : St → T → 
     (right_q : (n : ℕ) (s : St) → Right n StopQ (S s) (S' s) (q s))
     (begins : (s : St) → Begins (λ t. g s t ≡ true) (S s)) (entered : (s : St) (t : T) (us : List T) → g s t ≡ true → q s (t ∷ us) ≡ Err (Grammar (suc (length us))) → ⊥)
     (ended : Stop None) (stops : (s : St) (x : Option T) → Stop x → of_first (g s) x ≡ false)
-    (ends : (x : Option T) → Stop x → StopQ x) (follow : (s : St) (t : T) → g s t ≡ true → StopQ (Some t)) where
+    (ends : (x : Option T) → Stop x → StopQ x) (follow : (s : St) (b : B) (t : T) → g (next s b) t ≡ true → StopQ (Some t)) where
   -- one turn, as the parts have it
   abbrev Turn : (St → List T → B → Type 0) → St → List T → List B → Type 0
   Turn R s = Or (Then (R s) (λ b. Then (Run R next (next s b)) (λ bs. Only (b ∷ bs)))) (Only [])
@@ -28,12 +28,12 @@ module _ {T B St : Type 0} (Stop StopQ : Option T → Type 0) (g : St → T → 
   of_run R s us [] e = inr (e, refl)
   of_run R s us (b ∷ bs) (vs, ws, cut, r, m) = inl (b, vs, ws, cut, r, to_map (Run R next (next s b)) (λ bs. b ∷ bs) ws bs m)
 
-  -- what stands first in any number of turns and behind them
-  pub run_first : (s : St) (us rest : List T) (bs : List B) → Run S next s us bs → Stop (first rest) → StopQ (first (us ++ rest))
-  run_first s us rest [] e stop = subst (λ x. StopQ (first (x ++ rest))) (sym e) (ends (first rest) stop)
-  run_first s us rest (b ∷ bs) (vs, ws, cut, r, m) stop =
-      let (t, xs, cut', is) = begins s vs b r in
-      subst (λ x. StopQ (first (x ++ rest))) (sym (cut ∙ ap (λ x. x ++ ws) cut')) (follow s t is)
+  -- what stands first in any number of turns behind one, and behind them
+  pub run_first : (s : St) (b : B) (us rest : List T) (bs : List B) → Run S next (next s b) us bs → Stop (first rest) → StopQ (first (us ++ rest))
+  run_first s b us rest [] e stop = subst (λ x. StopQ (first (x ++ rest))) (sym e) (ends (first rest) stop)
+  run_first s b us rest (c ∷ bs) (vs, ws, cut, r, m) stop =
+      let (t, xs, cut', is) = begins (next s b) vs c r in
+      subst (λ x. StopQ (first (x ++ rest))) (sym (cut ∙ ap (λ x. x ++ ws) cut')) (follow s b t is)
 
   no_turn : (s : St) (us rest : List T) (bs : List B) → Only [] us bs → Stop (first rest) → starts (g s) (us ++ rest) ≡ false
   no_turn s us rest bs (e, e') stop = ap (λ x. starts (g s) (x ++ rest)) e ∙ starts_is (g s) rest ∙ stops s (first rest) stop
@@ -82,7 +82,7 @@ module _ {T B St : Type 0} (Stop StopQ : Option T → Type 0) (g : St → T → 
       right_same (suc n) Stop (Turn S s) (Turn S' s) (Run S next s) (Run S' next s) _ (to_run S s) (of_run S s) (to_run S' s)
       (right_on (suc n) Stop (g s) _ _ _ _ (q s >>= later) (pure [])
       (right_then_by (suc n) n StopQ Stop (S s) (S' s) _ _ (q s) later (right_q (suc n) s) right_later (λ us vs b r fits. less s n us vs b r fits)
-      (λ b vs rest bs m stop. let (bs', m', e) = of_map (Run S next (next s b)) (λ bs. b ∷ bs) vs bs m in run_first (next s b) vs rest bs' m' stop)
+      (λ b vs rest bs m stop. let (bs', m', e) = of_map (Run S next (next s b)) (λ bs. b ∷ bs) vs bs m in run_first s b vs rest bs' m' stop)
       (λ b. ([], b ∷ [], to_map (Run S' next (next s b)) (λ bs. b ∷ bs) [] [] refl)) ended)
       (right_pure (suc n) Stop ended [])
       (λ us bs (b, vs, ws, cut, r, m). let (t, xs, cut', is) = begins s vs b r in (t, xs ++ ws, cut ∙ ap (λ x. x ++ ws) cut', is))
@@ -152,7 +152,7 @@ module _ {T B St : Type 0} (g : St → T → Bool) (q : St → Reader T B) (next
       (right_q : (n : ℕ) (s : St) → Right n StopQ (S s) (S' s) (q s)) (some : (s : St) (b : B) → S s [] b → ⊥)
       (entered : (s : St) (t : T) (us : List T) → g s t ≡ true → q s (t ∷ us) ≡ Err (Grammar (suc (length us))) → ⊥)
       (ended : Stop None) (stops : (s : St) (x : Option T) → Stop x → of_first (g s) x ≡ false)
-      (ends : (x : Option T) → Stop x → StopQ x) (follow : (s : St) (t : T) → g s t ≡ true → StopQ (Some t)) where
+      (ends : (x : Option T) → Stop x → StopQ x) (follow : (s : St) (b : B) (t : T) → g (next s b) t ≡ true → StopQ (Some t)) where
     abbrev Seen : (St → List T → B → Type 0) → St → List T → B → Type 0
     Seen R s = On (g s) (R s)
 

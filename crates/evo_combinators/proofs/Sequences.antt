@@ -1,12 +1,12 @@
 -- Rules that take a token and go on, repetitions with separators, and what a reader of the whole says.
 use Rattle.std.specs.Prelude.{◌≡◌, ℕ, List, [], ◌∷◌, ◌++◌, length, Option, Some, None, Ok, Err, refl}
-use Rattle.std.proofs.Common.{sym, ◌∙◌, ap, subst, arith, append-nil}
+use Rattle.std.proofs.Common.{sym, ◌∙◌, ap, subst, arith, append-nil, length-append}
 use Rattle.std.proofs.Math.Nat.{le_refl}
 use Rattle.evo_combinators.specs.declared.Fault.{Fault}
 use Rattle.evo_combinators.specs.Reader.{Reader, ◌>>=◌, one}
 use Rattle.evo_combinators.specs.Rule.{Only, Led, One, Then, Many, Repeat, Some_of, IsOnly}
 use Rattle.evo_combinators.specs.Laws.{Right}
-use Rattle.evo_combinators.proofs.Laws.{right_same, right_then, right_one, ok_parts}
+use Rattle.evo_combinators.proofs.Laws.{right_same, right_then, right_then_by, right_one, ok_parts}
 
 pub some_only : {T A : Type 0} (a : A) → Some_of (Only {T = T} a)
 some_only a = ([], a, (refl, refl))
@@ -23,10 +23,10 @@ Anything x = Unit {0}
 
 -- a token that `f` takes, and then what S says
 module _ {T A B : Type 0} (f : T → Option A) where
-  of_led : (S : A → List T → B → Type 0) (us : List T) (b : B) → Led f S us b → Then (One f) S us b
+  pub of_led : (S : A → List T → B → Type 0) (us : List T) (b : B) → Led f S us b → Then (One f) S us b
   of_led S us b (t, a, vs, cut, takes, s) = (a, t ∷ [], vs, cut, (t, a, [], refl, takes, (refl, refl)), s)
 
-  to_led : (S : A → List T → B → Type 0) (us : List T) (b : B) → Then (One f) S us b → Led f S us b
+  pub to_led : (S : A → List T → B → Type 0) (us : List T) (b : B) → Then (One f) S us b → Led f S us b
   to_led S us b (a, vs, ws, cut, (t, a', xs, cut', takes, (none, is)), s) =
       (t, a', ws, cut ∙ ap (λ x. x ++ ws) (cut' ∙ ap (λ x. t ∷ x) none), takes, subst (λ x. S x ws b) is s)
 
@@ -35,6 +35,13 @@ module _ {T A B : Type 0} (f : T → Option A) where
   right_led n Stop S S' q ended right some =
       right_same n Stop (Then (One f) S) (Then (One f) S') (Led f S) (Led f S') (one f >>= q) (to_led S) (of_led S) (to_led S')
       (right_then n Anything Stop (One f) (One f) S S' (one f) q (right_one n Anything tt f) right (λ a vs rest b s stop. tt) some ended)
+
+  -- the same, where the rule with more nesting alone need have a spelling
+  pub right_led_by : (n : ℕ) (Stop : Option T → Type 0) (S S' : A → List T → B → Type 0) (q : A → Reader T B) → Stop None →
+      ((a : A) → Right n Stop (S a) (S' a) (q a)) → ((a : A) → Some_of (S' a)) → Right n Stop (Led f S) (Led f S') (one f >>= q)
+  right_led_by n Stop S S' q ended right some =
+      right_same n Stop (Then (One f) S) (Then (One f) S') (Led f S) (Led f S') (one f >>= q) (to_led S) (of_led S) (to_led S')
+      (right_then_by n n Anything Stop (One f) (One f) S S' (one f) q (right_one n Anything tt f) right (λ us vs a s fits. omega (arith, length-append us vs)) (λ a vs rest b s stop. tt) some ended)
 
 -- a repetition each turn of which is led by a token, and one of such turns
 module _ {T A B : Type 0} (f : T → Option A) (S : A → List T → B → Type 0) (R : List T → B → Type 0)
