@@ -1,5 +1,10 @@
-pub mod Interface
-pub mod Calls
-pub mod Copies
-pub mod Accepted
-pub mod Rules
+pub mod Terminals
+pub mod Pieces
+pub mod Expressions
+pub mod Types
+pub mod Bare
+pub mod Nodes
+pub mod Canonical
+pub mod Statements
+pub mod Declarations
+pub mod Modules

@@ -1,62 +1,35 @@
-//! The trees of the first form of library and client.
-//!
-//! A library of this form is a list of functions without parameters, each of which returns an
-//! integer or what another function returns. A client imports one library and prints integers and
-//! what its functions return.
+//! Syntax trees of libraries, clients and interfaces.
 #![tactic(auto)]
 
-use evo_base::{List, Name};
+mod compared;
+mod copy;
+mod copy_declaration;
+mod copy_expression;
+mod copy_module;
+mod copy_statement;
+mod declaration;
+mod expression;
+mod module;
+mod name;
+mod same_declaration;
+mod same_expression;
+mod same_module;
+mod same_name;
+mod same_statement;
+mod scope;
+mod statement;
+mod terminal;
 
-/// Who may use a function.
-#[derive(Clone, Copy, Debug, PartialEq, Eq)]
-pub enum Access {
-    /// The library alone: nothing is written before `func`.
-    Internal,
-    /// Clients too, which call it in the library that they run with: `public`.
-    Public,
-    /// Clients too, which copy its body into their own code: `@inlinable public`.
-    Inlinable,
-}
-
-/// An integer below 2^63, or a call without arguments.
-#[derive(Debug, Drop)]
-pub enum Term {
-    Integer(u64),
-    Call(Name),
-}
-
-/// `func NAME() -> Int { return TERM }`.
-#[derive(Debug, Drop)]
-pub struct Function {
-    pub access: Access,
-    pub name: Name,
-    pub body: Term,
-}
-
-/// `print(TERM, TERM ..)`: one line, with single spaces between the values.
-#[derive(Debug, Drop)]
-pub struct Print {
-    pub terms: List<Term>,
-}
-
-/// `import NAME` and then calls of `print`.
-#[derive(Debug, Drop)]
-pub struct Client {
-    pub import: Name,
-    pub prints: List<Print>,
-}
-
-/// What an interface says of a function: its name, and its body where clients may copy that.
-#[derive(Debug, Drop)]
-pub struct Declaration {
-    pub name: Name,
-    pub body: Option<Term>,
-}
-
-/// What a client is built from: the module's name and the functions that clients see, in source
-/// order. The release is 1.0.
-#[derive(Debug, Drop)]
-pub struct Interface {
-    pub name: Name,
-    pub functions: List<Declaration>,
-}
+pub use declaration::{
+    Accessors, Attr, AttrKind, Availability, Decl, DeclKind, GenericParameter, Header, Modifier,
+    ModifierKind, NominalKind, Parameter, ParameterLabel, Payload, Release, Requirement,
+};
+pub use expression::{Argument, Expr, InfixOperator, Member, Operand, PrefixOperator};
+pub use module::{Form, Item, Module, SourceFault};
+pub use name::{Identifier, TypeName};
+pub use same_module::same;
+pub use scope::Scope;
+pub use statement::{
+    AssignmentOperator, Binding, Block, Branch, Clause, ClauseLabel, Introducer, Pattern, Stmt,
+};
+pub use terminal::{Role, Terminal};

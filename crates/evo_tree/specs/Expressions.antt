@@ -1,0 +1,173 @@
+-- The grammar of expressions: which tokens spell which expression.
+--
+--   expr    = and { "||" and }        and = cmp { "&&" cmp }
+--   cmp     = add [("=="|"!="|"<"|"<="|">"|">="|"==="|"!==") add]
+--   add     = mul { ("+" | "-" | "&+" | "&-") mul }
+--   mul     = unary { ("*" | "/" | "%" | "&*") unary }
+--   unary   = ("-" | "!") unary | post
+--   post    = primary { "." name [args] }
+--   primary = name [args] | int | string | "self" | "Self" | "super" "." name args
+--           | "true" | "false" | "-" int | "(" expr ")" | "." name [args]
+--   args    = "(" [arg { "," arg }] ")"     arg = [name ":"] expr
+--
+-- A "-" directly before an integer is part of it, and only then may the integer be 2^63. The "(" of a call stands on the line of the token before it.
+-- A "(" and an operator before its operand nest what follows. `self.init` and `super.init` are statements (Statements).
+use Rattle.std.specs.Prelude.{ℕ, zero, suc, ◌-◌, ◌^◌, List, [], ◌∷◌, Bool, true, false, Option, Some, None, if◌then◌else◌}
+use Rattle.evo_base.specs.declared.place.Place.{Place}
+use Rattle.evo_combinators.specs.Rule.{Only, Nothing, Led, Or, Then, Many}
+use Rattle.evo_tree.specs.declared.name.Identifier.{Identifier}
+use Rattle.evo_tree.specs.declared.expression.InfixOperator.{InfixOperator}
+use Rattle.evo_tree.specs.declared.expression.InfixOperator.TheVariants as op
+use Rattle.evo_tree.specs.declared.expression.Expr.{Expr}
+use Rattle.evo_tree.specs.declared.expression.Expr.TheVariants as e
+use Rattle.evo_tree.specs.declared.terminal.Terminal.{Terminal}
+use Rattle.evo_tree.specs.declared.terminal.Terminal.TheVariants as t
+use Rattle.evo_tree.specs.declared.terminal.Role.TheVariants as role
+use Rattle.evo_tree.specs.Pieces.{Piece, mark, identifier, integer, string, negative, sign, call, has_role}
+
+abbrev pub Rule : Type 0 → Type 1
+Rule A = List Piece → A → Type 0
+
+-- a token that opens one more nesting, and then what S says, where so much nesting may still open
+abbrev pub Nested : {A B : Type 0} → ℕ → (Piece → Option A) → (A → Rule B) → Rule B
+Nested zero f S = Nothing
+Nested (suc d) f S = Led f S
+
+-- ---- operators
+
+abbrev pub multiplying : Terminal → Option InfixOperator
+multiplying t.Star = Some op.Multiply
+multiplying t.Slash = Some op.Divide
+multiplying t.Percent = Some op.Remainder
+multiplying t.WrappingStar = Some op.WrappingMultiply
+multiplying k = None
+
+abbrev pub adding : Terminal → Option InfixOperator
+adding t.Plus = Some op.Add
+adding t.Minus = Some op.Subtract
+adding t.WrappingPlus = Some op.WrappingAdd
+adding t.WrappingMinus = Some op.WrappingSubtract
+adding k = None
+
+abbrev pub comparing : Terminal → Option InfixOperator
+comparing t.EqualEqual = Some op.Equal
+comparing t.NotEqual = Some op.NotEqual
+comparing t.Less = Some op.Less
+comparing t.LessEqual = Some op.LessOrEqual
+comparing t.Greater = Some op.Greater
+comparing t.GreaterEqual = Some op.GreaterOrEqual
+comparing t.Identical = Some op.Identical
+comparing t.NotIdentical = Some op.NotIdentical
+comparing k = None
+
+abbrev pub conjoining : Terminal → Option InfixOperator
+conjoining t.AndAnd = Some op.And
+conjoining k = None
+
+abbrev pub disjoining : Terminal → Option InfixOperator
+disjoining t.OrOr = Some op.Or
+disjoining k = None
+
+-- takes an operator between operands
+unfoldable pub infix_by : (Terminal → Option InfixOperator) → Piece → Option InfixOperator
+infix_by f p = if has_role role.Infix p then f p.terminal else None
+
+-- ---- trees
+
+-- an operand alone is itself
+abbrev pub chain : Expr → List (InfixOperator × Expr) → Expr
+chain x [] = x
+chain x (o ∷ os) = e.Chain x (o ∷ os)
+
+abbrev pub members : Expr → List (Identifier × Option (List (Option Identifier × Expr))) → Expr
+members x [] = x
+members x (m ∷ ms) = e.Members x (m ∷ ms)
+
+abbrev pub one_operand : InfixOperator → Expr → List (InfixOperator × Expr)
+one_operand o x = (o, x) ∷ []
+
+-- ---- rules
+
+-- operand { operator operand }
+abbrev pub Chain : (Piece → Option InfixOperator) → Rule Expr → Rule Expr
+Chain f S = Then S (λ x. Then (Many f (λ o. Then S (λ y. Only (o, y)))) (λ os. Only (chain x os)))
+
+-- operand [ operator operand ]
+abbrev pub Pair : (Piece → Option InfixOperator) → Rule Expr → Rule Expr
+Pair f S = Then S (λ x. Or (Led f (λ o. Then S (λ y. Only (chain x (one_operand o y))))) (Only x))
+
+-- the levels of operators over a rule of operands
+abbrev pub Levels : Rule Expr → Rule Expr
+Levels S = Chain (infix_by disjoining) (Chain (infix_by conjoining) (Pair (infix_by comparing) (Chain (infix_by adding) (Chain (infix_by multiplying) S))))
+
+-- Inner is an expression in parentheses, Operand what follows a sign, and d how much nesting may open
+module _ (d : ℕ) (Inner Operand : Rule Expr) where
+  -- [ name ":" ] expr
+  abbrev pub Argument : Rule (Option Identifier × Expr)
+  Argument = Or (Led identifier (λ n. Led (mark t.Colon) (λ _. Then Inner (λ x. Only (Some n, x))))) (Then Inner (λ x. Only (None, x)))
+
+  -- arg { "," arg }
+  abbrev pub Listed_arguments : Rule (List (Option Identifier × Expr))
+  Listed_arguments = Then Argument (λ a. Then (Many (mark t.Comma) (λ _. Argument)) (λ as'. Only (a ∷ as')))
+
+  -- [ arg { "," arg } ] ")"
+  abbrev pub Rest_of_arguments : Rule (List (Option Identifier × Expr))
+  Rest_of_arguments = Or (Led (mark t.CloseParenthesis) (λ _. Only [])) (Then Listed_arguments (λ as'. Led (mark t.CloseParenthesis) (λ _. Only as')))
+
+  -- [ args ]
+  abbrev pub Arguments : Rule (Option (List (Option Identifier × Expr)))
+  Arguments = Or (Nested d call (λ _. Then Rest_of_arguments (λ as'. Only (Some as')))) (Only None)
+
+  -- args
+  abbrev pub Call : Rule (List (Option Identifier × Expr))
+  Call = Or (Nested d call (λ _. Rest_of_arguments)) Nothing
+
+  -- name [ args ]
+  abbrev pub Member : Rule (Identifier × Option (List (Option Identifier × Expr)))
+  Member = Led identifier (λ n. Then Arguments (λ as'. Only (n, as')))
+
+  -- expr ")"
+  abbrev pub Rest_of_group : Place → Rule Expr
+  Rest_of_group p = Then Inner (λ x. Led (mark t.CloseParenthesis) (λ _. Only (e.Parenthesised p x)))
+
+  -- "." name args, behind `super`
+  abbrev pub Rest_of_super : Place → Rule Expr
+  Rest_of_super p = Led (mark t.Dot) (λ _. Led identifier (λ n. Then Call (λ as'. Only (e.Super p n as'))))
+
+  -- an integer behind the `-` that belongs to it
+  abbrev pub Magnitude : Place → Rule Expr
+  Magnitude p = Led (integer (2 ^ 63)) (λ v. Only (e.Negative p v.1))
+
+  abbrev pub Primary : Rule Expr
+  Primary = Or (Led identifier (λ n. Then Arguments (λ as'. Only (e.Name n as'))))
+      (Or (Led (integer (2 ^ 63 - 1)) (λ v. Only (e.Integer v.0 v.1)))
+      (Or (Led string (λ v. Only (e.String v.0 v.1)))
+      (Or (Led (mark t.SelfValue) (λ p. Only (e.SelfValue p)))
+      (Or (Led (mark t.SelfType) (λ p. Only (e.SelfType p)))
+      (Or (Led (mark t.Super) Rest_of_super)
+      (Or (Led (mark t.True) (λ p. Only (e.Boolean p true)))
+      (Or (Led (mark t.False) (λ p. Only (e.Boolean p false)))
+      (Or (Led negative Magnitude)
+      (Or (Nested d (mark t.OpenParenthesis) Rest_of_group)
+      (Or (Led (mark t.Dot) (λ p. Then Member (λ m. Only (e.ImplicitMember p m.0 m.1)))) Nothing))))))))))
+
+  -- { "." name [ args ] }
+  abbrev pub Links : Expr → Rule Expr
+  Links x = Then (Many (mark t.Dot) (λ _. Member)) (λ ms. Only (members x ms))
+
+  -- primary { "." name [ args ] }
+  abbrev pub Post : Rule Expr
+  Post = Then Primary Links
+
+  -- sign unary | post
+  abbrev pub Unary_of : Rule Expr
+  Unary_of = Or (Nested d sign (λ s. Then Operand (λ x. Only (e.Prefix s.0 s.1 x)))) Post
+
+-- with this much nesting
+unfoldable pub Unary : ℕ → Rule Expr
+Unary zero = Unary_of zero Nothing Nothing
+Unary (suc d) = Unary_of (suc d) (Levels (Unary d)) (Unary d)
+
+-- an expression with at most this much nesting
+abbrev pub IsExpr : ℕ → Rule Expr
+IsExpr d = Levels (Unary d)

@@ -1,0 +1,131 @@
+-- The grammar of modules, and which text spells which module.
+--
+--   library    = { import } { decl }
+--   client     = { import } { decl | stmt }
+--   interface  = import { decl }
+--   import     = "import" name
+--
+-- Imports, declarations and statements behind another one stand behind a `;` or on a later line.
+-- An interface begins with two exact lines, which are comments to the grammar. They say its name and its release.
+use Rattle.std.specs.Prelude.{◌≡◌, ◌⊎◌, ℕ, ◌^◌, ◌<◌, List, [], ◌∷◌, ◌++◌, map, Option, Some, None, Bool, true, false, codes}
+use Rattle.std.specs.Fmt.{decimal}
+use Rattle.evo_base.specs.declared.token.Token.{Token}
+use Rattle.evo_combinators.specs.Rule.{Only, Led, Or, Then}
+use Rattle.evo_combinators.specs.Guard.{Run}
+use Rattle.evo_lex.specs.Cut.{Cut}
+use Rattle.evo_words.specs.Module.{IsModule}
+use Rattle.evo_tree.specs.declared.name.Identifier.{Identifier}
+use Rattle.evo_tree.specs.declared.statement.Block.{Block}
+use Rattle.evo_tree.specs.declared.statement.Stmt.{Stmt}
+use Rattle.evo_tree.specs.declared.declaration.Release.{Release}
+use Rattle.evo_tree.specs.declared.module.Form.{Form}
+use Rattle.evo_tree.specs.declared.module.Form.TheVariants as form
+use Rattle.evo_tree.specs.declared.module.Item.{Item}
+use Rattle.evo_tree.specs.declared.module.Item.TheVariants as item
+use Rattle.evo_tree.specs.declared.module.Module.{Module}
+use Rattle.evo_tree.specs.declared.terminal.Terminal.TheVariants as t
+use Rattle.evo_tree.specs.Pieces.{pieces, mark, identifier}
+use Rattle.evo_tree.specs.Expressions.{Rule}
+use Rattle.evo_tree.specs.Statements.{IsStmt, IsBlock, Later}
+use Rattle.evo_tree.specs.Declarations.{only_if, Next, IsDeclaration}
+
+-- an import, or what a declaration or a statement makes
+pub data Part : Type 0 where
+  imports : Identifier → Part
+  items : List Item → Part
+
+abbrev pub imports_of : List Part → List Identifier
+imports_of [] = []
+imports_of (imports n ∷ parts) = n ∷ imports_of parts
+imports_of (items is ∷ parts) = imports_of parts
+
+abbrev pub items_of : List Part → List Item
+items_of [] = []
+items_of (imports n ∷ parts) = items_of parts
+items_of (items is ∷ parts) = is ++ items_of parts
+
+-- where a part stands: it is the first one, or a further one, which may be an import or not
+pub data Spot : Type 0 where
+  leading : Spot
+  further : Bool → Spot
+
+-- imports may stand behind imports alone
+abbrev pub after_part : Spot → Part → Spot
+after_part s (items is) = further false
+after_part leading (imports n) = further true
+after_part (further may) (imports n) = further may
+
+abbrev pub is_interface : Form → Bool
+is_interface form.Interface = true
+is_interface f = false
+
+-- B is a block and S a statement that stands behind others, by how much nesting may open
+module _ (B : ℕ → Bool → Rule Block) (S : ℕ → Rule Stmt) where
+  -- decl
+  abbrev pub Declared : Form → ℕ → Rule (List Item)
+  Declared f d = Then (IsDeclaration B (is_interface f) d) (λ ds. Only (map item.Decl ds))
+
+  -- decl, or in a client decl | stmt
+  abbrev pub Items : Form → ℕ → Rule (List Item)
+  Items form.Client d = Or (Declared form.Client d) (Then (S d) (λ x. Only (item.Stmt x ∷ [])))
+  Items (form.Library n) d = Declared (form.Library n) d
+  Items form.Interface d = Declared form.Interface d
+
+  -- import
+  abbrev pub Import : Rule Part
+  Import = Led (mark t.Import) (λ _. Led identifier (λ n. Only (imports n)))
+
+  -- an import, where it may stand, or items
+  abbrev pub Part_of : Form → ℕ → Bool → Rule Part
+  Part_of f d may = Or (Led (only_if may (mark t.Import)) (λ _. Led identifier (λ n. Only (imports n)))) (Then (Items f d) (λ is. Only (items is)))
+
+  -- the first part, or a further one behind a separator, and whether it may be an import
+  abbrev pub Part_at : Form → ℕ → Spot → Rule Part
+  Part_at f d leading = Part_of f d true
+  Part_at f d (further may) = Next (Part_of f d may)
+
+  abbrev pub Parts : Form → ℕ → Rule (List Part)
+  Parts form.Interface d = Then Import (λ x. Then (Run (Part_at form.Interface d) after_part (further false)) (λ xs. Only (x ∷ xs)))
+  Parts form.Client d = Run (Part_at form.Client d) after_part leading
+  Parts (form.Library n) d = Run (Part_at (form.Library n) d) after_part leading
+
+-- ---- texts
+
+-- a line feed, with a carriage return before it or not
+abbrev pub IsLineEnd : List ℕ → Type 0
+IsLineEnd end = (end ≡ 10 ∷ []) ⊎ (end ≡ 13 ∷ 10 ∷ [])
+
+-- the two lines with which an interface of this name and release begins
+pub record IsHeading (text name : List ℕ) (release : Release) : Type 0 where
+  pub name_is : IsModule name
+  pub major : release.major < 2 ^ 32
+  pub minor : release.minor < 2 ^ 32
+  pub first_end : List ℕ
+  pub second_end : List ℕ
+  pub rest : List ℕ
+  pub ends : IsLineEnd first_end
+  pub ends_again : IsLineEnd second_end
+  pub lines : text ≡ codes "// swift-interface-format-version: 1.0" ++ first_end
+      ++ codes "// swevo-module: " ++ name ++ codes " " ++ decimal release.major ++ codes "." ++ decimal release.minor ++ second_end ++ rest
+
+-- where a module has its name and its release from
+abbrev pub IsNamed : List ℕ → Form → List ℕ → Option Release → Type 0
+IsNamed text (form.Library n) name release = (name ≡ n) × (release ≡ None)
+IsNamed text form.Client name release = (name ≡ codes "main") × (release ≡ None)
+IsNamed text form.Interface name None = ⊥
+IsNamed text form.Interface name (Some release) = IsHeading text name release
+
+-- this much nesting may open
+abbrev pub nesting : ℕ
+nesting = 64
+
+-- the text, read in this form, is this module: it is cut into tokens which spell its parts
+pub record Spells (text : List ℕ) (f : Form) (m : Module) : Type 0 where
+  pub tokens : List Token
+  pub cut : Cut text tokens
+  pub parts : List Part
+  pub spelled : Parts (λ d inits. IsBlock inits d) (λ d. Later (IsStmt false d)) f nesting (pieces text tokens) parts
+  pub form_is : m.form ≡ f
+  pub named : IsNamed text f m.name m.release
+  pub imports_are : m.imports ≡ imports_of parts
+  pub items_are : m.items ≡ items_of parts

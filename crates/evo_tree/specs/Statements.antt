@@ -1,0 +1,334 @@
+-- The grammar of statements: which tokens spell which statement and which block.
+--
+--   block   = "{" [ stmt { separator stmt } ] "}"
+--   stmt    = ("let" | "var") name [":" type] "=" expr | "_" "=" expr
+--           | "if" expr block { "else" "if" expr block } ["else" block]
+--           | "while" expr block | "return" [expr] | "break" | "continue"
+--           | "switch" expr "{" clause { clause } "}"
+--           | "self" "." "init" args | "super" "." "init" args
+--           | post ("=" | "+=" | "-=" | "*=" | "/=" | "%=") expr | expr
+--   clause  = ("case" pattern { "," pattern } | "default" | "@" "unknown" "default") ":" stmt { separator stmt }
+--   pattern = [type] "." name ["(" sub { "," sub } ")"] | ["-"] int | string | "true" | "false"
+--   sub     = [name ":"] ("let" name | "_")
+--
+-- A separator is a semicolon, or nothing where the next token stands on a later line than the one before it. Behind a separator no
+-- statement begins with ".". The value of `return` begins on its line. Nothing that begins with "-" or "!" and no chain of operators
+-- is assigned to, and operators that assign are infix by the white space beside them, but for "=". `self.init` and `super.init` stand
+-- in initialisers alone. A clause for all that is left is the last one. The "{" of blocks and of `switch` and the "(" of a pattern nest.
+use Rattle.std.specs.Prelude.{ℕ, zero, suc, ◌-◌, ◌^◌, List, [], ◌∷◌, ◌++◌, Bool, true, false, not, ◌||◌, ◌&&◌, Option, Some, None, codes, if◌then◌else◌}
+use Rattle.evo_base.specs.declared.place.Place.{Place}
+use Rattle.evo_combinators.specs.Rule.{Only, Nothing, Led, One, Or, Then, Many}
+use Rattle.evo_combinators.specs.Guard.{On, Run}
+use Rattle.evo_tree.specs.declared.name.Identifier.{Identifier}
+use Rattle.evo_tree.specs.declared.name.TypeName.{TypeName}
+use Rattle.evo_tree.specs.declared.expression.Expr.{Expr, Expr-F, out-Expr}
+use Rattle.evo_tree.specs.declared.expression.Expr.TheOpen as x
+use Rattle.evo_tree.specs.declared.statement.Introducer.{Introducer}
+use Rattle.evo_tree.specs.declared.statement.Introducer.TheVariants as introducer
+use Rattle.evo_tree.specs.declared.statement.AssignmentOperator.{AssignmentOperator}
+use Rattle.evo_tree.specs.declared.statement.AssignmentOperator.TheVariants as assignment
+use Rattle.evo_tree.specs.declared.statement.Binding.{Binding}
+use Rattle.evo_tree.specs.declared.statement.Pattern.{Pattern}
+use Rattle.evo_tree.specs.declared.statement.Pattern.TheVariants as pattern
+use Rattle.evo_tree.specs.declared.statement.ClauseLabel.{ClauseLabel}
+use Rattle.evo_tree.specs.declared.statement.ClauseLabel.TheVariants as label
+use Rattle.evo_tree.specs.declared.statement.Block.{Block, roll-Block}
+use Rattle.evo_tree.specs.declared.statement.Clause.{Clause, roll-Clause, out-Clause}
+use Rattle.evo_tree.specs.declared.statement.Stmt.{Stmt}
+use Rattle.evo_tree.specs.declared.statement.Stmt.TheVariants as s
+use Rattle.evo_tree.specs.declared.terminal.Terminal.{Terminal}
+use Rattle.evo_tree.specs.declared.terminal.Terminal.TheVariants as t
+use Rattle.evo_tree.specs.declared.terminal.Role.TheVariants as role
+use Rattle.evo_tree.specs.Pieces.{Piece, is_terminal, has_role, placed, mark, identifier, word, integer, string, negative}
+use Rattle.evo_tree.specs.Expressions.{Rule, Nested, Unary, IsExpr, Call}
+use Rattle.evo_tree.specs.Types.{type_head, IsType}
+
+-- ---- tests of one piece
+
+abbrev pub introduced : Terminal → Option Introducer
+introduced t.Let = Some introducer.Let
+introduced t.Var = Some introducer.Var
+introduced k = None
+
+-- takes `let` or `var`, with its place
+unfoldable pub introduces : Piece → Option (Place × Introducer)
+introduces p = placed p.place (introduced p.terminal)
+
+abbrev pub assigning : Terminal → Option AssignmentOperator
+assigning t.Equal = Some assignment.Assign
+assigning t.PlusEqual = Some assignment.Add
+assigning t.MinusEqual = Some assignment.Subtract
+assigning t.StarEqual = Some assignment.Multiply
+assigning t.SlashEqual = Some assignment.Divide
+assigning t.PercentEqual = Some assignment.Remainder
+assigning k = None
+
+-- takes an operator that assigns
+unfoldable pub assigns : Piece → Option AssignmentOperator
+assigns p = if is_terminal t.Equal p || has_role role.Infix p then assigning p.terminal else None
+
+-- stands on the line of the token before it
+unfoldable pub is_here : Piece → Bool
+is_here p = not p.below
+
+-- stands on a later line
+unfoldable pub is_below : Piece → Bool
+is_below p = p.below
+
+-- may begin a statement behind a separator
+unfoldable pub is_later : Piece → Bool
+is_later p = not (is_terminal t.Dot p)
+
+-- ---- trees
+
+-- one level of an expression that is no negative literal
+abbrev pub is_positive_level : Expr-F Expr → Bool
+is_positive_level (x.Negative p v) = false
+is_positive_level level = true
+
+-- one level of an expression that may be assigned to
+abbrev pub is_target_level : Expr-F Expr → Bool
+is_target_level (x.Negative p v) = false
+is_target_level (x.Prefix p o y) = false
+is_target_level (x.Chain y os) = false
+is_target_level (x.Members y ms) = is_positive_level (out-Expr y)
+is_target_level level = true
+
+unfoldable pub is_target : Expr → Bool
+is_target y = is_target_level (out-Expr y)
+
+-- takes an operator that assigns, behind what may be assigned to
+unfoldable pub assigns_to : Expr → Piece → Option AssignmentOperator
+assigns_to y p = if is_target y then assigns p else None
+
+abbrev pub binding : Option Identifier → Option Identifier → Binding
+binding l n = record { label = l; name = n }
+
+-- the type and the case that some names, a further one and those behind it are: the last one is the case
+abbrev pub path_of : Place → List (List ℕ) → Identifier → List Identifier → TypeName × Identifier
+path_of p names n [] = (record { place = p; names = names }, n)
+path_of p names n (m ∷ ms) = path_of p (names ++ n.text ∷ []) m ms
+
+abbrev pub case_of_type : TypeName × Identifier → Place → Option (List Binding) → Pattern
+case_of_type path p bs = pattern.Case p (Some path.0) path.1 bs
+
+abbrev pub clause : Place × ClauseLabel → List Stmt → Clause
+clause l ss = roll-Clause (record { place = l.0; label = l.1; statements = ss })
+
+abbrev pub block : Place → List Stmt → Place → Block
+block p ss q = roll-Block (record { place = p; statements = ss; end = q })
+
+abbrev pub takes_rest : ClauseLabel → Bool
+takes_rest (label.Case ps) = false
+takes_rest label.Default = true
+takes_rest label.UnknownDefault = true
+
+-- nothing follows a clause for all that is left
+abbrev pub is_last_clause : Bool → Clause → Bool
+is_last_clause before c = takes_rest (out-Clause c).label
+
+abbrev pub has_none : Option Expr → Bool
+has_none None = true
+has_none (Some y) = false
+
+-- nothing follows a branch without a condition
+abbrev pub is_last_branch : Bool → Option Expr × Block → Bool
+is_last_branch before b = has_none b.0
+
+-- ---- patterns
+
+-- "let" name | "_"
+abbrev pub Binder : Option Identifier → Rule Binding
+Binder l = Or (Led (mark t.Let) (λ _. Led identifier (λ n. Only (binding l (Some n))))) (Led (mark t.Underscore) (λ _. Only (binding l None)))
+
+-- [ name ":" ] ("let" name | "_")
+abbrev pub Sub : Rule Binding
+Sub = Or (Led identifier (λ l. Led (mark t.Colon) (λ _. Binder (Some l)))) (Binder None)
+
+-- sub { "," sub }
+abbrev pub Subs : Rule (List Binding)
+Subs = Then Sub (λ b. Then (Many (mark t.Comma) (λ _. Sub)) (λ bs. Only (b ∷ bs)))
+
+-- sub { "," sub } ")"
+abbrev pub Rest_of_payload : Rule (List Binding)
+Rest_of_payload = Then Subs (λ bs. Led (mark t.CloseParenthesis) (λ _. Only bs))
+
+-- [ "(" sub { "," sub } ")" ], where so much nesting may open
+abbrev pub Payload : ℕ → Rule (Option (List Binding))
+Payload d = Or (Nested d (mark t.OpenParenthesis) (λ _. Then Rest_of_payload (λ bs. Only (Some bs)))) (Only None)
+
+-- "." name { "." name }, behind a name or `Self`
+abbrev pub Path : Place × List ℕ → Rule (TypeName × Identifier)
+Path head = Led (mark t.Dot) (λ _. Led identifier (λ n. Then (Many (mark t.Dot) (λ _. One identifier)) (λ ns. Only (path_of head.0 (head.1 ∷ []) n ns))))
+
+-- an integer behind the `-` that belongs to it
+abbrev pub Magnitude : Place → Rule Pattern
+Magnitude p = Led (integer (2 ^ 63)) (λ v. Only (pattern.Negative p v.1))
+
+abbrev pub IsPattern : ℕ → Rule Pattern
+IsPattern d = Or (Led (mark t.Dot) (λ p. Led identifier (λ n. Then (Payload d) (λ bs. Only (pattern.Case p None n bs)))))
+    (Or (Led type_head (λ head. Then (Path head) (λ path. Then (Payload d) (λ bs. Only (case_of_type path head.0 bs)))))
+    (Or (Led negative Magnitude)
+    (Or (Led (integer (2 ^ 63 - 1)) (λ v. Only (pattern.Integer v.0 v.1)))
+    (Or (Led string (λ v. Only (pattern.String v.0 v.1)))
+    (Or (Led (mark t.True) (λ p. Only (pattern.Boolean p true)))
+    (Led (mark t.False) (λ p. Only (pattern.Boolean p false))))))))
+
+-- ---- several statements. S is a statement.
+
+-- a statement behind a separator
+abbrev pub Later : Rule Stmt → Rule Stmt
+Later S = On is_later S
+
+-- the first statement (true), or a further one behind a separator
+abbrev pub statement_at : Rule Stmt → Bool → Rule Stmt
+statement_at S true = S
+statement_at S false = Or (Led (mark t.Semicolon) (λ _. Later S)) (On is_below (Later S))
+
+abbrev pub no_longer_first : Bool → Stmt → Bool
+no_longer_first first x = false
+
+-- statements, of which the first is still to come (true) or not
+abbrev pub Statements : Rule Stmt → Bool → Rule (List Stmt)
+Statements S first = Run (statement_at S) no_longer_first first
+
+-- stmt { separator stmt }
+abbrev pub Some_statements : Rule Stmt → Rule (List Stmt)
+Some_statements S = Then S (λ x. Then (Statements S false) (λ xs. Only (x ∷ xs)))
+
+-- [ stmt { separator stmt } ] "}"
+abbrev pub Rest_of_block : Rule Stmt → Place → Rule Block
+Rest_of_block S p = Then (Statements S true) (λ ss. Led (mark t.CloseBrace) (λ q. Only (block p ss q)))
+
+-- "{" statements "}", where so much nesting may open
+abbrev pub Block_of : ℕ → Rule Stmt → Rule Block
+Block_of d S = Or (Nested d (mark t.OpenBrace) (Rest_of_block S)) Nothing
+
+-- ---- clauses. S is a statement in the braces, where so much nesting may open.
+
+-- pattern { "," pattern }
+abbrev pub Patterns : ℕ → Rule (List Pattern)
+Patterns d = Then (IsPattern d) (λ x. Then (Many (mark t.Comma) (λ _. IsPattern d)) (λ xs. Only (x ∷ xs)))
+
+-- "case" pattern { "," pattern } | "default" | "@" "unknown" "default"
+abbrev pub Label : ℕ → Rule (Place × ClauseLabel)
+Label d = Or (Led (mark t.Case) (λ p. Then (Patterns d) (λ xs. Only (p, label.Case xs))))
+    (Or (Led (mark t.Default) (λ p. Only (p, label.Default)))
+    (Led (mark t.At) (λ p. Led (word (codes "unknown")) (λ _. Led (mark t.Default) (λ _. Only (p, label.UnknownDefault))))))
+
+-- label ":" stmt { separator stmt }
+abbrev pub IsClause : ℕ → Rule Stmt → Rule Clause
+IsClause d S = Then (Label d) (λ l. Led (mark t.Colon) (λ _. Then (Some_statements S) (λ ss. Only (clause l ss))))
+
+-- a further clause, unless one took all that is left
+abbrev pub clause_at : ℕ → Rule Stmt → Bool → Rule Clause
+clause_at d S true = Nothing
+clause_at d S false = IsClause d S
+
+-- clause { clause } "}"
+abbrev pub Rest_of_clauses : ℕ → Rule Stmt → Rule (List Clause)
+Rest_of_clauses d S = Then (IsClause d S) (λ c. Then (Run (clause_at d S) is_last_clause (is_last_clause false c)) (λ cs. Led (mark t.CloseBrace) (λ _. Only (c ∷ cs))))
+
+-- one nesting less
+abbrev pub less : ℕ → ℕ
+less zero = zero
+less (suc d) = d
+
+-- "{" clauses "}", where so much nesting may open
+abbrev pub Clauses_of : ℕ → Rule Stmt → Rule (List Clause)
+Clauses_of d S = Or (Nested d (mark t.OpenBrace) (λ _. Rest_of_clauses (less d) S)) Nothing
+
+-- ---- statements. d is how much nesting may open, E an expression, A the arguments of a call, S a statement in braces, and
+-- inits says whether the statements of initialisers may stand.
+
+-- [ ":" type ]
+abbrev pub Annotation : Rule (Option TypeName)
+Annotation = Or (Led (mark t.Colon) (λ _. Then IsType (λ n. Only (Some n)))) (Only None)
+
+module _ (inits : Bool) (d : ℕ) (E : Rule Expr) (A : Rule (List (Option Identifier × Expr))) (S : Rule Stmt) where
+  -- name [ ":" type ] "=" expr
+  abbrev pub Rest_of_local : Place × Introducer → Rule Stmt
+  Rest_of_local i = Led identifier (λ n. Then Annotation (λ ty. Led (mark t.Equal) (λ _. Then E (λ y. Only (s.Local i.0 i.1 n ty y)))))
+
+  -- "=" expr
+  abbrev pub Rest_of_discard : Place → Rule Stmt
+  Rest_of_discard p = Led (mark t.Equal) (λ _. Then E (λ y. Only (s.Discard p y)))
+
+  -- expr block
+  abbrev pub Branch : Rule (Option Expr × Block)
+  Branch = Then E (λ y. Then (Block_of d S) (λ b. Only (Some y, b)))
+
+  -- "if" expr block | block
+  abbrev pub Behind_else : Rule (Option Expr × Block)
+  Behind_else = Or (Led (mark t.If) (λ _. Branch)) (Then (Block_of d S) (λ b. Only (None, b)))
+
+  -- "else" branch, unless a branch has no condition
+  abbrev pub else_at : Bool → Rule (Option Expr × Block)
+  else_at true = Nothing
+  else_at false = Led (mark t.Else) (λ _. Behind_else)
+
+  -- expr block { "else" "if" expr block } [ "else" block ]
+  abbrev pub Rest_of_if : Place → Rule Stmt
+  Rest_of_if p = Then Branch (λ b. Then (Run else_at is_last_branch false) (λ bs. Only (s.If p (b ∷ bs))))
+
+  -- expr block
+  abbrev pub Rest_of_while : Place → Rule Stmt
+  Rest_of_while p = Then E (λ y. Then (Block_of d S) (λ b. Only (s.While p y b)))
+
+  -- [ expr ]
+  abbrev pub Value : Rule (Option Expr)
+  Value = Or (Then (On is_here E) (λ y. Only (Some y))) (Only None)
+
+  abbrev pub Rest_of_return : Place → Rule Stmt
+  Rest_of_return p = Then Value (λ y. Only (s.Return p y))
+
+  -- expr "{" clauses "}"
+  abbrev pub Rest_of_switch : Place → Rule Stmt
+  Rest_of_switch p = Then E (λ y. Then (Clauses_of d S) (λ cs. Only (s.Switch p y cs)))
+
+  -- "." "init" args
+  abbrev pub Rest_of_init : (List (Option Identifier × Expr) → Stmt) → Rule Stmt
+  Rest_of_init f = Led (mark t.Dot) (λ _. Led (mark t.Init) (λ _. Then A (λ as'. Only (f as'))))
+
+  -- [ operator expr ]
+  abbrev pub Rest_of_assignment : Expr → Rule Stmt
+  Rest_of_assignment y = Or (Led (assigns_to y) (λ o. Then E (λ z. Only (s.Assign y o z)))) (Only (s.Expr y))
+
+  -- post operator expr | expr
+  abbrev pub Action : Rule Stmt
+  Action = Then E Rest_of_assignment
+
+  -- "self" "." "init" args | "super" "." "init" args | action
+  abbrev pub Action_of : Bool → Rule Stmt
+  Action_of false = Action
+  Action_of true = Or (Led (mark t.SelfValue) (λ p. Rest_of_init (s.SelfInit p))) (Or (Led (mark t.Super) (λ p. Rest_of_init (s.SuperInit p))) Action)
+
+  abbrev pub Stmt_of : Rule Stmt
+  Stmt_of = Or (Led introduces Rest_of_local)
+      (Or (Led (mark t.Underscore) Rest_of_discard)
+      (Or (Led (mark t.If) Rest_of_if)
+      (Or (Led (mark t.While) Rest_of_while)
+      (Or (Led (mark t.Return) Rest_of_return)
+      (Or (Led (mark t.Break) (λ p. Only (s.Break p)))
+      (Or (Led (mark t.Continue) (λ p. Only (s.Continue p)))
+      (Or (Led (mark t.Switch) Rest_of_switch) (Action_of inits))))))))
+
+-- the arguments of a call, with this much nesting
+abbrev pub IsCall : ℕ → Rule (List (Option Identifier × Expr))
+IsCall zero = Call zero Nothing Nothing
+IsCall (suc d) = Call (suc d) (IsExpr d) (Unary d)
+
+-- a statement with at most this much nesting
+unfoldable pub IsStmt : Bool → ℕ → Rule Stmt
+IsStmt inits zero = Stmt_of inits zero (IsExpr zero) (IsCall zero) Nothing
+IsStmt inits (suc d) = Stmt_of inits (suc d) (IsExpr (suc d)) (IsCall (suc d)) (IsStmt inits d)
+
+-- a block with at most this much nesting
+abbrev pub IsBlock : Bool → ℕ → Rule Block
+IsBlock inits zero = Block_of zero Nothing
+IsBlock inits (suc d) = Block_of (suc d) (IsStmt inits d)
+
+-- a statement of a client, the first one (true) or one behind a separator
+abbrev pub IsStatement : Bool → ℕ → Rule Stmt
+IsStatement true d = IsStmt false d
+IsStatement false d = Later (IsStmt false d)

@@ -1,0 +1,107 @@
+//! Copies of expressions.
+
+ghost use Rattle.std.specs.Prelude.{◌≡◌, IfOk};
+
+use crate::copy::{Copied, copy_option};
+use crate::expression::{Argument, Expr, Member, Operand};
+use sqlite_items::{Boxed, Items};
+use std::alloc::{AllocError, Global};
+
+#[cycle(copies)]
+fn copy_arguments(alloc: Global, items: &Items<Argument>) -> Result<Items<Argument>, AllocError>
+    ensures { IfOk result (λ copy. copy ≡ items.now) }
+{
+    let mut copies = Items::new(alloc);
+    for (label, value) in items.as_slice() {
+        copies.push((copy_option(alloc, label)?, copy_expr(alloc, value)?))?;
+    }
+    Ok(copies)
+}
+
+#[cycle(copies)]
+fn copy_call(
+    alloc: Global,
+    arguments: &Option<Items<Argument>>,
+) -> Result<Option<Items<Argument>>, AllocError>
+    ensures { IfOk result (λ copy. copy ≡ arguments.now) }
+{
+    match arguments {
+        Some(arguments) => Ok(Some(copy_arguments(alloc, arguments)?)),
+        None => Ok(None),
+    }
+}
+
+#[cycle(copies)]
+fn copy_members(alloc: Global, items: &Items<Member>) -> Result<Items<Member>, AllocError>
+    ensures { IfOk result (λ copy. copy ≡ items.now) }
+{
+    let mut copies = Items::new(alloc);
+    for member in items.as_slice() {
+        copies.push((member.0.copy(alloc)?, copy_call(alloc, &member.1)?))?;
+    }
+    Ok(copies)
+}
+
+#[cycle(copies)]
+fn copy_operands(alloc: Global, items: &Items<Operand>) -> Result<Items<Operand>, AllocError>
+    ensures { IfOk result (λ copy. copy ≡ items.now) }
+{
+    let mut copies = Items::new(alloc);
+    for (operator, value) in items.as_slice() {
+        copies.push((*operator, copy_expr(alloc, value)?))?;
+    }
+    Ok(copies)
+}
+
+#[cycle(copies)]
+fn copy_boxed(alloc: Global, expr: &Boxed<Expr>) -> Result<Boxed<Expr>, AllocError>
+    ensures { IfOk result (λ copy. copy ≡ expr.now) }
+{
+    Boxed::new(alloc, copy_expr(alloc, expr.get())?)
+}
+
+#[cycle(copies)]
+fn copy_expr(alloc: Global, expr: &Expr) -> Result<Expr, AllocError>
+    ensures { IfOk result (λ copy. copy ≡ expr.now) }
+{
+    Ok(match expr {
+        Expr::Integer(place, value) => Expr::Integer(*place, *value),
+        Expr::Negative(place, value) => Expr::Negative(*place, *value),
+        Expr::String(place, text) => Expr::String(*place, text.copy(alloc)?),
+        Expr::Boolean(place, value) => Expr::Boolean(*place, *value),
+        Expr::Name(name, call) => Expr::Name(name.copy(alloc)?, copy_call(alloc, call)?),
+        Expr::SelfValue(place) => Expr::SelfValue(*place),
+        Expr::SelfType(place) => Expr::SelfType(*place),
+        Expr::Super(place, name, arguments) => {
+            Expr::Super(*place, name.copy(alloc)?, copy_arguments(alloc, arguments)?)
+        }
+        Expr::ImplicitMember(place, name, call) => {
+            Expr::ImplicitMember(*place, name.copy(alloc)?, copy_call(alloc, call)?)
+        }
+        Expr::Parenthesised(place, inner) => Expr::Parenthesised(*place, copy_boxed(alloc, inner)?),
+        Expr::Prefix(place, operator, inner) => {
+            Expr::Prefix(*place, *operator, copy_boxed(alloc, inner)?)
+        }
+        Expr::Members(first, members) => {
+            Expr::Members(copy_boxed(alloc, first)?, copy_members(alloc, members)?)
+        }
+        Expr::Chain(first, operands) => {
+            Expr::Chain(copy_boxed(alloc, first)?, copy_operands(alloc, operands)?)
+        }
+    })
+}
+
+impl Expr {
+    /// An equal expression.
+    pub fn copy(&self, alloc: Global) -> Result<Expr, AllocError>
+        ensures { IfOk result (λ copy. copy ≡ self.now) }
+    {
+        copy_expr(alloc, self)
+    }
+}
+
+impl Copied for Expr {
+    fn copied(&self, alloc: Global) -> Result<Expr, AllocError> {
+        self.copy(alloc)
+    }
+}

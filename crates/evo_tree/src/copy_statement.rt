@@ -1,0 +1,220 @@
+//! Copies of patterns and statements.
+
+ghost use Rattle.std.specs.Prelude.{◌≡◌, IfOk};
+
+use crate::copy::{Copied, copy_list, copy_option};
+use crate::expression::Argument;
+use crate::statement::{Binding, Block, Branch, Clause, ClauseLabel, Pattern, Stmt};
+use evo_base::List;
+use sqlite_items::Items;
+use std::alloc::{AllocError, Global};
+
+impl Binding {
+    /// An equal binding.
+    pub fn copy(&self, alloc: Global) -> Result<Binding, AllocError>
+        ensures { IfOk result (λ copy. copy ≡ self.now) }
+    {
+        Ok(Binding {
+            label: copy_option(alloc, &self.label)?,
+            name: copy_option(alloc, &self.name)?,
+        })
+    }
+}
+
+impl Copied for Binding {
+    fn copied(&self, alloc: Global) -> Result<Binding, AllocError> {
+        self.copy(alloc)
+    }
+}
+
+fn copy_bindings(
+    alloc: Global,
+    bindings: &Option<List<Binding>>,
+) -> Result<Option<List<Binding>>, AllocError>
+    ensures { IfOk result (λ copy. copy ≡ bindings.now) }
+{
+    match bindings {
+        Some(bindings) => Ok(Some(copy_list(alloc, bindings)?)),
+        None => Ok(None),
+    }
+}
+
+impl Pattern {
+    /// An equal pattern.
+    pub fn copy(&self, alloc: Global) -> Result<Pattern, AllocError>
+        ensures { IfOk result (λ copy. copy ≡ self.now) }
+    {
+        match self {
+            Pattern::Case(place, type_name, name, bindings) => Ok(Pattern::Case(
+                *place,
+                copy_option(alloc, type_name)?,
+                name.copy(alloc)?,
+                copy_bindings(alloc, bindings)?,
+            )),
+            Pattern::Integer(place, value) => Ok(Pattern::Integer(*place, *value)),
+            Pattern::Negative(place, value) => Ok(Pattern::Negative(*place, *value)),
+            Pattern::String(place, text) => Ok(Pattern::String(*place, text.copy(alloc)?)),
+            Pattern::Boolean(place, value) => Ok(Pattern::Boolean(*place, *value)),
+        }
+    }
+}
+
+impl Copied for Pattern {
+    fn copied(&self, alloc: Global) -> Result<Pattern, AllocError> {
+        self.copy(alloc)
+    }
+}
+
+impl ClauseLabel {
+    /// An equal label.
+    pub fn copy(&self, alloc: Global) -> Result<ClauseLabel, AllocError>
+        ensures { IfOk result (λ copy. copy ≡ self.now) }
+    {
+        match self {
+            ClauseLabel::Case(patterns) => Ok(ClauseLabel::Case(copy_list(alloc, patterns)?)),
+            ClauseLabel::Default => Ok(ClauseLabel::Default),
+            ClauseLabel::UnknownDefault => Ok(ClauseLabel::UnknownDefault),
+        }
+    }
+}
+
+/// Equal arguments.
+fn copy_arguments(alloc: Global, items: &Items<Argument>) -> Result<Items<Argument>, AllocError>
+    ensures { IfOk result (λ copy. copy ≡ items.now) }
+{
+    let mut copies = Items::new(alloc);
+    for (label, value) in items.as_slice() {
+        copies.push((copy_option(alloc, label)?, value.copy(alloc)?))?;
+    }
+    Ok(copies)
+}
+
+#[cycle(copies)]
+fn copy_stmts(alloc: Global, items: &Items<Stmt>) -> Result<Items<Stmt>, AllocError>
+    ensures { IfOk result (λ copy. copy ≡ items.now) }
+{
+    let mut copies = Items::new(alloc);
+    for stmt in items.as_slice() {
+        copies.push(copy_stmt(alloc, stmt)?)?;
+    }
+    Ok(copies)
+}
+
+#[cycle(copies)]
+fn copy_block(alloc: Global, block: &Block) -> Result<Block, AllocError>
+    ensures { IfOk result (λ copy. copy ≡ block.now) }
+{
+    Ok(Block {
+        place: block.place,
+        statements: copy_stmts(alloc, &block.statements)?,
+        end: block.end,
+    })
+}
+
+#[cycle(copies)]
+fn copy_branches(alloc: Global, items: &Items<Branch>) -> Result<Items<Branch>, AllocError>
+    ensures { IfOk result (λ copy. copy ≡ items.now) }
+{
+    let mut copies = Items::new(alloc);
+    for (condition, block) in items.as_slice() {
+        copies.push((copy_option(alloc, condition)?, copy_block(alloc, block)?))?;
+    }
+    Ok(copies)
+}
+
+#[cycle(copies)]
+fn copy_clauses(alloc: Global, items: &Items<Clause>) -> Result<Items<Clause>, AllocError>
+    ensures { IfOk result (λ copy. copy ≡ items.now) }
+{
+    let mut copies = Items::new(alloc);
+    for clause in items.as_slice() {
+        copies.push(copy_clause(alloc, clause)?)?;
+    }
+    Ok(copies)
+}
+
+#[cycle(copies)]
+fn copy_clause(alloc: Global, clause: &Clause) -> Result<Clause, AllocError>
+    ensures { IfOk result (λ copy. copy ≡ clause.now) }
+{
+    Ok(Clause {
+        place: clause.place,
+        label: clause.label.copy(alloc)?,
+        statements: copy_stmts(alloc, &clause.statements)?,
+    })
+}
+
+#[cycle(copies)]
+fn copy_stmt(alloc: Global, stmt: &Stmt) -> Result<Stmt, AllocError>
+    ensures { IfOk result (λ copy. copy ≡ stmt.now) }
+{
+    Ok(match stmt {
+        Stmt::Local(place, introducer, name, type_name, value) => Stmt::Local(
+            *place,
+            *introducer,
+            name.copy(alloc)?,
+            copy_option(alloc, type_name)?,
+            value.copy(alloc)?,
+        ),
+        Stmt::Discard(place, value) => Stmt::Discard(*place, value.copy(alloc)?),
+        Stmt::Assign(target, operator, value) => Stmt::Assign(
+            target.copy(alloc)?,
+            *operator,
+            value.copy(alloc)?,
+        ),
+        Stmt::Expr(value) => Stmt::Expr(value.copy(alloc)?),
+        Stmt::SelfInit(place, arguments) => {
+            Stmt::SelfInit(*place, copy_arguments(alloc, arguments)?)
+        }
+        Stmt::SuperInit(place, arguments) => {
+            Stmt::SuperInit(*place, copy_arguments(alloc, arguments)?)
+        }
+        Stmt::If(place, branches) => Stmt::If(*place, copy_branches(alloc, branches)?),
+        Stmt::While(place, condition, block) => Stmt::While(
+            *place,
+            condition.copy(alloc)?,
+            copy_block(alloc, block)?,
+        ),
+        Stmt::Return(place, value) => Stmt::Return(*place, copy_option(alloc, value)?),
+        Stmt::Break(place) => Stmt::Break(*place),
+        Stmt::Continue(place) => Stmt::Continue(*place),
+        Stmt::Switch(place, value, clauses) => Stmt::Switch(
+            *place,
+            value.copy(alloc)?,
+            copy_clauses(alloc, clauses)?,
+        ),
+    })
+}
+
+impl Block {
+    /// An equal block.
+    pub fn copy(&self, alloc: Global) -> Result<Block, AllocError>
+        ensures { IfOk result (λ copy. copy ≡ self.now) }
+    {
+        copy_block(alloc, self)
+    }
+}
+
+impl Copied for Block {
+    fn copied(&self, alloc: Global) -> Result<Block, AllocError> {
+        self.copy(alloc)
+    }
+}
+
+impl Clause {
+    /// An equal clause.
+    pub fn copy(&self, alloc: Global) -> Result<Clause, AllocError>
+        ensures { IfOk result (λ copy. copy ≡ self.now) }
+    {
+        copy_clause(alloc, self)
+    }
+}
+
+impl Stmt {
+    /// An equal statement.
+    pub fn copy(&self, alloc: Global) -> Result<Stmt, AllocError>
+        ensures { IfOk result (λ copy. copy ≡ self.now) }
+    {
+        copy_stmt(alloc, self)
+    }
+}
