@@ -1,0 +1,4 @@
+use Rattle.evo_parse_expr.proofs.expression.+expr.Given as goal
+
+abbrev pub decreases-expr : goal.decreases-expr
+decreases-expr l = l.depth

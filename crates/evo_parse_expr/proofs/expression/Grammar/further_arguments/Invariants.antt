@@ -1,0 +1,10 @@
+use Rattle.std.proofs.Common.{◌≡◌, ◌-◌}
+use Rattle.evo_combinators.specs.Reader.{many}
+use Rattle.evo_combinators.proofs.Turns.{After}
+use Rattle.evo_tree.specs.Pieces.{mark}
+use Rattle.evo_tree.specs.declared.terminal.Terminal.TheVariants.{Comma}
+use Rattle.evo_parse_expr.specs.Turns.{argument_reader}
+use Rattle.evo_parse_expr.proofs.expression.Grammar.further_arguments.Given as goal
+
+abbrev pub invariant-loop-turn : goal.invariant-loop-turn
+invariant-loop-turn g l = many (mark Comma) (argument_reader l.self.depth) l.fn.tokens ≡ After (mark Comma) (argument_reader l.self.depth) (l._turn-end - l._turn) l.found l.tokens
