@@ -1,0 +1,11 @@
+pub mod Blocked
+pub mod Examples
+pub mod Family
+pub mod Fits
+pub mod Follows
+pub mod Opened
+pub mod Paths
+pub mod Patterns
+pub mod Productions
+pub mod Right
+pub mod Tests
