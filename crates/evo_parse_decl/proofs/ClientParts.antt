@@ -1,0 +1,360 @@
+-- The reader of clients reads its rule.
+use Rattle.std.proofs.Common.{◌≡◌, ℕ, zero, suc, ◌-◌, ◌<◌, ◌≤◌, Bool, true, false, not, List, [], ◌∷◌, ◌++◌, length, Option, Some, None, Ok, Err, refl, sym, ◌∙◌, ap, subst, arith, ◌⊎◌, inl, inr, length-append, ltb-true}
+use Rattle.std.specs.Prelude.{map, cond, nat_lt, ◌&&◌, ◌||◌}
+use Rattle.std.specs.Option.{is_some}
+use Rattle.evo_base.specs.declared.place.Place.{Place}
+use Rattle.evo_combinators.specs.Rule.{Only, Nothing, Led, Or, Then, Some_of}
+use Rattle.evo_combinators.specs.Reader.{◌>>=◌, pure, refuse, alt, one}
+use Rattle.evo_combinators.specs.Guard.{On, Run, on, starts, ahead}
+use Rattle.evo_combinators.specs.Attempt.{tries}
+use Rattle.evo_combinators.specs.Laws.{Begins, Deeper, Right, Takes, Skips, first, Grammar_of}
+use Rattle.evo_combinators.proofs.Laws.{begins_then, of_map, right_stop, right_map, right_pure, right_alt_by, right_ext, right_same, begins_skips, to_map}
+use Rattle.evo_combinators.proofs.Deeper.{deeper_then, deeper_alt, same_refl}
+use Rattle.evo_combinators.proofs.GuardDeeper.{deeper_choose}
+use Rattle.evo_combinators.proofs.GuardLaws.{right_on, starts_is, right_ahead, which}
+use Rattle.evo_combinators.proofs.Entered.{takes_then}
+use Rattle.evo_tree.specs.declared.statement.Block.{Block}
+use Rattle.evo_tree.specs.declared.statement.Stmt.{Stmt}
+use Rattle.evo_tree.specs.declared.module.Form.{Form}
+use Rattle.evo_tree.specs.declared.module.Form.TheVariants as form
+use Rattle.evo_tree.specs.declared.module.Item.{Item}
+use Rattle.evo_tree.specs.declared.module.Item.TheVariants as item
+use Rattle.evo_tree.specs.declared.declaration.Decl.{Decl}
+use Rattle.evo_tree.specs.declared.terminal.Terminal.{Terminal}
+use Rattle.evo_tree.specs.declared.terminal.Terminal.TheVariants as t
+use Rattle.evo_tree.specs.Terminals.{number_of}
+use Rattle.evo_tree.specs.Pieces.{Piece, is_terminal, mark, identifier}
+use Rattle.evo_tree.specs.Expressions.{Rule}
+use Rattle.evo_tree.specs.Statements.{IsStmt, Later, is_later}
+use Rattle.evo_tree.specs.Declarations.{nominal_word, IsDeclaration, only_if, Below, Next}
+use Rattle.evo_tree.specs.Modules.{Part, imports, items, Spot, leading, further, after_part}
+use Rattle.evo_parse_decl.proofs.Parses.{Parses, parses_led, parses_pure, skipped, never}
+use Rattle.evo_tree.specs.Modules as grammar
+use Rattle.evo_parse_expr.specs.Read.{Reader}
+use Rattle.evo_parse_stmt.specs.Read.{stmt}
+use Rattle.evo_parse_stmt.proofs.Follows.{After, After_stmt, Starts, leading as statement_words, Fresh, fresh_apart, expression_codes, after_at, next_after, later_no_dot}
+use Rattle.evo_parse_expr.proofs.Tests.{rank_at, opens_expr}
+use Rattle.evo_parse_stmt.proofs.Tests.{apart}
+use Rattle.evo_parse_stmt.proofs.Tests as their
+use Rattle.evo_parse_stmt.proofs.Tests.{assigning_codes}
+use Rattle.evo_combinators.proofs.FilterLaws.{right_filter}
+use Rattle.evo_combinators.proofs.Attempts.{right_tries, deeper_tries}
+use Rattle.evo_parse_stmt.proofs.Family.{laws, stmt_grammar}
+use Rattle.evo_parse_decl.specs.Closed.{Block_at, block_at}
+use Rattle.evo_parse_decl.specs.Read.{begins_top, is_modifier, next}
+use Rattle.evo_parse_decl.specs.ReadModules as read
+use Rattle.evo_parse_decl.proofs.Sets.{Set, these, but, In, among, into, none_in, none_holds, among_cons}
+use Rattle.evo_parse_decl.proofs.ModuleParts.{parses_declared, End}
+use Rattle.evo_parse_decl.proofs.Concrete.{blocks}
+use Rattle.evo_parse_decl.proofs.Tests.{nominal_test, identifier_test, is_number, mark_is, modifier_numbers}
+use Rattle.evo_parse_decl.proofs.Productions.{Words, is_modifier_word}
+use Rattle.evo_parse_decl.proofs.Members.{or_rest}
+use Rattle.evo_parse_decl.proofs.Top.{Ends_of, parses_top_declaration, begins_top_at, takes_top_at, is_nominal}
+
+-- what a declaration at the top level begins with
+abbrev Tops : List ℕ
+Tops = 74 ∷ 10 ∷ 9 ∷ 5 ∷ 6 ∷ 7 ∷ 8 ∷ Words
+
+top_number : (u : Piece) → begins_top u ≡ true → among (number_of u.terminal) Tops ≡ true
+unfolding begins_top
+top_number u is = elim (which (is_terminal t.At u)) [
+  | inl here ↦ into (these (74 ∷ [])) (these Tops) refl (Some u) (is_number t.At u here)
+  | inr no_at ↦ elim (which (is_modifier [] u)) [
+    | inl here ↦ let (m, takes) = is_modifier_word [] u here in into (these Words) (these Tops) refl (Some u) (modifier_numbers [] u m takes)
+    | inr no_word ↦ elim (which (is_terminal t.Func u)) [
+      | inl here ↦ into (these (10 ∷ [])) (these Tops) refl (Some u) (is_number t.Func u here)
+      | inr no_func ↦ elim (which (is_some (nominal_word u))) [
+        | inl here ↦ let (w, takes) = is_nominal u here in into (these (5 ∷ 6 ∷ 7 ∷ 8 ∷ [])) (these Tops) refl (Some u) (nominal_test.numbers u w takes)
+        | inr no_type ↦ into (these (9 ∷ [])) (these Tops) refl (Some u) (or_rest (is_some (nominal_word u)) _ no_type (or_rest (is_terminal t.Func u) _ no_func (or_rest (is_modifier [] u) _ no_word (or_rest (is_terminal t.At u) _ no_at is))))
+      ]
+    ]
+  ]
+]
+
+-- no statement begins so
+no_statement : (u : Piece) → Starts u → among (number_of u.terminal) Tops ≡ true → ⊥
+no_statement u (inl lead) is = apart Tops statement_words (number_of u.terminal) refl is lead
+no_statement u (inr fresh) is = fresh_apart Tops refl u fresh is
+
+abbrev pub S_at : ℕ → Rule Stmt
+S_at d = Later (IsStmt false d)
+
+abbrev pub s_at : ℕ → Reader Stmt
+s_at d = ahead is_later >>= (λ _. stmt false d)
+
+begins_stmt : (d : ℕ) → Begins Starts (IsStmt false d)
+begins_stmt d us x r = let law = (stmt_grammar false).right d 0 in (laws false d).tail.begins us x (law.wider us x r)
+
+-- ---- items
+
+abbrev D : ℕ → Rule (List Item)
+D d = grammar.Declared Block_at S_at form.Client d
+
+abbrev X : ℕ → Rule (List Item)
+X d = Then (S_at d) (λ x. Only (item.Stmt x ∷ []))
+
+abbrev declared : ℕ → Reader (List Item)
+declared d = read.declared block_at s_at form.Client d
+
+abbrev stated : ℕ → Reader (List Item)
+stated d = s_at d >>= (λ x. pure (item.Stmt x ∷ []))
+
+right_declared : (d n : ℕ) → Right n After_stmt (D d) (D (suc d)) (declared d)
+right_declared d n = right_stop n (In (but [])) After_stmt (D d) (D (suc d)) (declared d) (λ x h. refl) tt ((parses_declared Block_at block_at blocks S_at s_at form.Client).chooses.right d n)
+
+begins_declared : (d : ℕ) → Begins (λ u. begins_top u ≡ true) (D d)
+begins_declared d = begins_then (λ u. begins_top u ≡ true) (IsDeclaration Block_at false d) (λ ds. Only (map item.Decl ds)) (begins_top_at Block_at block_at blocks false d)
+
+full_top : (d : ℕ) (x : List Decl) → IsDeclaration Block_at false d [] x → ⊥
+full_top d x r = let (u, vs, cut, h) = begins_top_at Block_at block_at blocks false d [] x r in cc
+
+takes_declared : (d : ℕ) (u : Piece) → begins_top u ≡ true → Takes (declared d) u
+unfolding read.declared
+takes_declared d u is = takes_then (In (but [])) (λ x. Unit {0}) (IsDeclaration Block_at false d) (IsDeclaration Block_at false (suc d)) (λ ds. Only (map item.Decl ds)) (λ ds. Only (map item.Decl ds)) _ (λ ds. pure (map item.Decl ds)) u
+    (λ n. (parses_top_declaration Block_at block_at blocks false).chooses.right d n) (λ ds n. right_pure n (λ x. Unit {0}) tt (map item.Decl ds)) (full_top d) (takes_top_at Block_at block_at blocks false d u is)
+
+full_stmt : (d : ℕ) (x : Stmt) → IsStmt false d [] x → ⊥
+full_stmt d x r = let (u, vs, cut, h) = begins_stmt d [] x r in cc
+
+right_stated : (d n : ℕ) → Right n After_stmt (X d) (X (suc d)) (stated d)
+right_stated d n = right_map n After_stmt (S_at d) (S_at (suc d)) (s_at d) (λ x. item.Stmt x ∷ [])
+    (right_ahead n After_stmt is_later (IsStmt false d) (IsStmt false (suc d)) (stmt false d) ((stmt_grammar false).right d n) (full_stmt d))
+
+-- begins a statement that stands behind others
+record Stands (u : Piece) : Type 0 where
+  later : is_later u ≡ true
+  starts : Starts u
+
+begins_stated : (d : ℕ) → Begins Stands (X d)
+begins_stated d us x r =
+    let (y, (v, vs, cut, is, s), e) = of_map (S_at d) (λ x. item.Stmt x ∷ []) us x r in
+    let (u, ws, cut', h) = begins_stmt d us y s in
+    let same : v ≡ u = let both = sym (ap first cut) ∙ ap first cut' in cc in
+    (u, ws, cut', record { later = subst (λ k. is_later k ≡ true) same is; starts = h })
+
+no_declaration : (u : Piece) → Stands u → begins_top u ≡ false
+no_declaration u stands = elim (which (begins_top u)) [
+  | inl is ↦ absurd (no_statement u stands.starts (top_number u is))
+  | inr isnt ↦ isnt
+]
+
+right_items : (d n : ℕ) → Right n After_stmt (grammar.Items Block_at S_at form.Client d) (grammar.Items Block_at S_at form.Client (suc d)) (read.items_of block_at s_at form.Client d)
+unfolding read.items_of
+right_items d n = right_on n After_stmt begins_top (D d) (D (suc d)) (X d) (X (suc d)) (declared d) (stated d) (right_declared d n) (right_stated d n) (begins_declared d)
+    (λ u us fits is bad. takes_declared d u is us bad)
+    (λ us rest x r stop. let (u, vs, cut, h) = begins_stated d us x r in ap (λ k. starts begins_top (k ++ rest)) cut ∙ starts_is begins_top (u ∷ (vs ++ rest)) ∙ no_declaration u h)
+
+deeper_items : (d : ℕ) → Deeper (read.items_of block_at s_at form.Client d) (read.items_of block_at s_at form.Client (suc d))
+unfolding read.items_of
+deeper_items d = deeper_choose (starts begins_top) (declared d) (declared (suc d)) (stated d) (stated (suc d)) ((parses_declared Block_at block_at blocks S_at s_at form.Client).chooses.deeper d)
+    (deeper_then (s_at d) (s_at (suc d)) _ _ (deeper_then (ahead is_later) (ahead is_later) _ _ (same_refl (ahead is_later)) (λ _. (stmt_grammar false).deeper d)) (λ x. same_refl (pure (item.Stmt x ∷ []))))
+
+-- begins an item
+abbrev Item_first : Piece → Type 0
+Item_first u = (begins_top u ≡ true) ⊎ Stands u
+
+begins_items : (d : ℕ) → Begins Item_first (grammar.Items Block_at S_at form.Client d)
+begins_items d us x (inl r) = let (u, vs, cut, h) = begins_declared d us x r in (u, vs, cut, inl h)
+begins_items d us x (inr r) = let (u, vs, cut, h) = begins_stated d us x r in (u, vs, cut, inr h)
+
+-- ---- parts
+
+abbrev Part_first : Piece → Type 0
+Part_first u = (is_terminal t.Import u ≡ true) ⊎ Item_first u
+
+-- no item begins with such a token
+item_not : (n : ℕ) → none_in (these Tops) (n ∷ []) ≡ true → their.disjoint (n ∷ []) statement_words ≡ true → their.disjoint (n ∷ []) expression_codes ≡ true → (u : Piece) → Item_first u → among (number_of u.terminal) (n ∷ []) ≡ true → ⊥
+item_not n far no_lead no_expr u (inl top) is = none_holds (these Tops) (number_of u.terminal) (n ∷ []) far is (top_number u top)
+item_not n far no_lead no_expr u (inr stands) is = starts_apart stands.starts
+  where
+    starts_apart : Starts u → ⊥
+    starts_apart (inl lead) = apart (n ∷ []) statement_words (number_of u.terminal) no_lead is lead
+    starts_apart (inr fresh) = fresh_apart (n ∷ []) no_expr u fresh is
+
+abbrev Imported : Place → Rule Part
+Imported _ = Led identifier (λ n. Only (imports n))
+
+abbrev imported : Place → Reader Part
+imported _ = one identifier >>= (λ n. pure (imports n))
+
+abbrev Y : ℕ → Rule Part
+Y d = Then (grammar.Items Block_at S_at form.Client d) (λ is. Only (items is))
+
+abbrev itemed : ℕ → Reader Part
+itemed d = read.items_of block_at s_at form.Client d >>= (λ is. pure (items is))
+
+abbrev P_of : ℕ → Bool → Rule Part
+P_of d may = grammar.Part_of Block_at S_at form.Client d may
+
+abbrev part : ℕ → Bool → Reader Part
+part d may = alt (only_if may (mark t.Import)) imported (itemed d)
+
+right_itemed : (d n : ℕ) → Right n After_stmt (Y d) (Y (suc d)) (itemed d)
+right_itemed d n = right_map n After_stmt (grammar.Items Block_at S_at form.Client d) (grammar.Items Block_at S_at form.Client (suc d)) (read.items_of block_at s_at form.Client d) (λ is. items is) (right_items d n)
+
+begins_itemed : (d : ℕ) → Begins Item_first (Y d)
+begins_itemed d = begins_then Item_first (grammar.Items Block_at S_at form.Client d) (λ is. Only (items is)) (begins_items d)
+
+parses_imported : (p : Place) → Parses (these (0 ∷ [])) (but []) (λ _. Imported p) (λ _. imported p)
+parses_imported p = parses_led refl refl identifier_test (λ n. parses_pure refl (imports n))
+
+right_part : (d n : ℕ) (may : Bool) → Right n After_stmt (P_of d may) (P_of (suc d) may) (part d may)
+right_part d n true = right_alt_by n After_stmt (mark t.Import) Imported Imported (Y d) (Y (suc d)) imported (itemed d)
+    (λ p. right_stop (n - 1) (In (but [])) After_stmt (Imported p) (Imported p) (imported p) (λ x h. refl) tt ((parses_imported p).chooses.right d (n - 1))) (right_itemed d n)
+    (λ p. (parses_imported p).some d)
+    (λ us rest x r stop. begins_skips Item_first (mark t.Import) (Y d) (begins_itemed d) (λ u a h takes. item_not 4 refl refl refl u h (is_number t.Import u (mark_is t.Import u a takes))) us rest x r)
+right_part d n false = right_ext n After_stmt (P_of d false) (P_of (suc d) false) (itemed d) (part d false) (λ ts all. skipped (mark t.Import) imported (itemed d) ts)
+    (right_same n After_stmt (Y d) (Y (suc d)) (P_of d false) (P_of (suc d) false) (itemed d) (λ us x r. inr r) (never (mark t.Import) Imported (Y d)) (λ us x r. inr r) (right_itemed d n))
+
+deeper_part : (d : ℕ) (may : Bool) → Deeper (part d may) (part (suc d) may)
+deeper_part d may = deeper_alt (only_if may (mark t.Import)) imported imported (itemed d) (itemed (suc d)) (λ p. same_refl (imported p)) (deeper_then _ _ _ _ (deeper_items d) (λ is. same_refl (pure (items is))))
+
+import_first : (may : Bool) (u : Piece) (p : Place) → only_if may (mark t.Import) u ≡ Some p → is_terminal t.Import u ≡ true
+import_first true u p e = mark_is t.Import u p e
+import_first false u p e = absurd (cc)
+
+begins_part : (d : ℕ) (may : Bool) → Begins Part_first (P_of d may)
+begins_part d may us x (inl (u, p, vs, cut, takes, r)) = (u, vs, cut, inl (import_first may u p takes))
+begins_part d may us x (inr r) = let (u, vs, cut, h) = begins_itemed d us x r in (u, vs, cut, inr h)
+
+full_part : (d : ℕ) (may : Bool) (x : Part) → P_of d may [] x → ⊥
+full_part d may x r = let (u, vs, cut, h) = begins_part d may [] x r in cc
+
+some_part : (d : ℕ) (may : Bool) → Some_of (P_of (suc d) may)
+some_part d may = let (us, x, r) = (parses_declared Block_at block_at blocks S_at s_at form.Client).some d in (us, items x, inr (to_map (grammar.Items Block_at S_at form.Client (suc d)) (λ is. items is) us x (inl r)))
+
+part_semicolon : (u : Piece) (p : Place) → Part_first u → mark t.Semicolon u ≡ Some p → ⊥
+part_semicolon u p (inl is) takes = none_holds (these (4 ∷ [])) (number_of u.terminal) (71 ∷ []) refl (is_number t.Semicolon u (mark_is t.Semicolon u p takes)) (is_number t.Import u is)
+part_semicolon u p (inr h) takes = item_not 71 refl refl refl u h (is_number t.Semicolon u (mark_is t.Semicolon u p takes))
+
+no_nothing : (R : Rule Part) (us : List Piece) (x : Part) → Or R Nothing us x → R us x
+no_nothing R us x (inl r) = r
+no_nothing R us x (inr none) = absurd none
+
+abbrev Lower : ℕ → Bool → Rule Part
+Lower d may = Or (Below (P_of d may)) Nothing
+
+abbrev lower : ℕ → Bool → Reader Part
+lower d may = on (λ u. u.below) (part d may) refuse
+
+right_lower : (d n : ℕ) (may : Bool) → Right n After_stmt (Lower d may) (Lower (suc d) may) (lower d may)
+right_lower d n may = right_same n After_stmt (Below (P_of d may)) (Below (P_of (suc d) may)) (Lower d may) (Lower (suc d) may) (lower d may) (λ us x r. inl r) (no_nothing (Below (P_of d may))) (λ us x r. inl r)
+    (right_filter n After_stmt (λ u. u.below) (P_of d may) (P_of (suc d) may) (part d may) (right_part d n may) (full_part d may))
+
+begins_lower : (d : ℕ) (may : Bool) → Begins (λ u. (u.below ≡ true) × Part_first u) (Lower d may)
+begins_lower d may us x r =
+    let (v, vs, cut, is, s) = no_nothing (Below (P_of d may)) us x r in
+    let (u, ws, cut', h) = begins_part d may us x s in
+    let same : v ≡ u = let both = sym (ap first cut) ∙ ap first cut' in cc in
+    (u, ws, cut', (subst (λ k. k.below ≡ true) same is, h))
+
+right_next : (d n : ℕ) (may : Bool) → Right n After_stmt (Next (P_of d may)) (Next (P_of (suc d) may)) (next (part d may))
+unfolding next
+right_next d n may = right_alt_by n After_stmt (mark t.Semicolon) (λ _. P_of d may) (λ _. P_of (suc d) may) (Lower d may) (Lower (suc d) may) (λ _. part d may) (lower d may)
+    (λ _. right_part d (n - 1) may) (right_lower d n may) (λ _. some_part d may)
+    (λ us rest x r stop. begins_skips (λ u. (u.below ≡ true) × Part_first u) (mark t.Semicolon) (Lower d may) (begins_lower d may) (λ u a h takes. part_semicolon u a h.1 takes) us rest x r)
+
+deeper_next : (d : ℕ) (may : Bool) → Deeper (next (part d may)) (next (part (suc d) may))
+unfolding next
+deeper_next d may = deeper_alt (mark t.Semicolon) (λ _. part d may) (λ _. part (suc d) may) (lower d may) (lower (suc d) may) (λ _. deeper_part d may) (deeper_choose (starts (λ u. u.below)) (part d may) (part (suc d) may) refuse refuse (deeper_part d may) (same_refl refuse))
+
+-- ---- what may follow a part
+
+-- nothing before goes on with such a terminal
+calm : Terminal → Bool
+calm k = nat_lt 6 (rank_at k true false) && not (their.among (number_of t.Else ∷ assigning_codes) (number_of k)) && not (opens_expr k)
+
+all_calm : List Terminal → Bool
+all_calm [] = true
+all_calm (k ∷ ks) = calm k && all_calm ks
+
+not_true : (b : Bool) → not b ≡ true → b ≡ false
+not_true true e = absurd (cc)
+not_true false e = refl
+
+three : (a b c : Bool) → (a && b && c) ≡ true → (a ≡ true) × (b ≡ true) × (c ≡ true)
+three true true c e = (refl, refl, e)
+three true false c e = absurd (cc)
+three false b c e = absurd (cc)
+
+two_true : (a b : Bool) → (a && b) ≡ true → (a ≡ true) × (b ≡ true)
+two_true true b e = (refl, e)
+two_true false b e = absurd (cc)
+
+after_of : (ks : List Terminal) (u : Piece) → all_calm ks ≡ true → among (number_of u.terminal) (map number_of ks) ≡ true → After u
+unfolding all_calm calm
+after_of [] u calm' is = absurd (cc)
+after_of (k ∷ ks) u calm' is = among_cons (After u) (number_of u.terminal) (number_of k) (map number_of ks)
+    (λ same. let (quiet, other, shut) = three (nat_lt 6 (rank_at k true false)) _ _ (two_true (nat_lt 6 (rank_at k true false) && not (their.among (number_of t.Else ∷ assigning_codes) (number_of k)) && not (opens_expr k)) (all_calm ks) calm').0 in
+    after_at k u same (ltb-true 6 (rank_at k true false) quiet) (not_true _ other) (not_true _ shut))
+    (λ later. after_of ks u (two_true _ (all_calm ks) calm').1 later) is
+
+abbrev Keywords : List Terminal
+Keywords = t.Import ∷ t.At ∷ t.Func ∷ t.Extension ∷ t.Struct ∷ t.Enum ∷ t.Class ∷ t.Protocol
+    ∷ t.Open ∷ t.Public ∷ t.Internal ∷ t.Private ∷ t.Final ∷ t.Static ∷ t.Mutating ∷ t.Override ∷ []
+
+after_keyword : (u : Piece) → among (number_of u.terminal) (4 ∷ Tops) ≡ true → After u
+unfolding all_calm calm
+after_keyword u is = after_of Keywords u refl is
+
+-- begins a part behind a separator
+abbrev Next_first : Piece → Type 0
+Next_first u = (is_terminal t.Semicolon u ≡ true) ⊎ ((u.below ≡ true) × Part_first u)
+
+after_part_first : (u : Piece) → Next_first u → After_stmt (Some u)
+after_part_first u (inl is) = next_after u (inl (their.is_terminal_number t.Semicolon u is))
+after_part_first u (inr (below, inl is)) = after_keyword u (into (these (4 ∷ [])) (these (4 ∷ Tops)) refl (Some u) (is_number t.Import u is))
+after_part_first u (inr (below, inr (inl top))) = after_keyword u (into (these Tops) (these (4 ∷ Tops)) refl (Some u) (top_number u top))
+after_part_first u (inr (below, inr (inr stands))) = next_after u (inr (below, later_no_dot u stands.later, stands.starts))
+
+begins_next : (d : ℕ) (may : Bool) → Begins Next_first (Next (P_of d may))
+begins_next d may us x (inl (u, p, vs, cut, takes, r)) = (u, vs, cut, inl (mark_is t.Semicolon u p takes))
+begins_next d may us x (inr r) = let (u, vs, cut, h) = begins_lower d may us x r in (u, vs, cut, inr h)
+
+-- ---- whole clients
+
+abbrev Spotted : ℕ → Spot → Rule Part
+Spotted d leading = P_of d true
+Spotted d (further may) = Next (P_of d may)
+
+abbrev spotted : ℕ → Spot → Reader Part
+spotted d leading = part d true
+spotted d (further may) = next (part d may)
+
+abbrev Spot_first : Spot → Piece → Type 0
+Spot_first leading u = Part_first u
+Spot_first (further may) u = Next_first u
+
+right_spot : (d n : ℕ) (at : Spot) → Right n After_stmt (Spotted d at) (Spotted (suc d) at) (spotted d at)
+right_spot d n leading = right_part d n true
+right_spot d n (further may) = right_next d n may
+
+deeper_spot : (d : ℕ) (at : Spot) → Deeper (spotted d at) (spotted (suc d) at)
+deeper_spot d leading = deeper_part d true
+deeper_spot d (further may) = deeper_next d may
+
+begins_spot : (d : ℕ) (at : Spot) → Begins (Spot_first at) (Spotted d at)
+begins_spot d leading = begins_part d true
+begins_spot d (further may) = begins_next d may
+
+full_spot : (d : ℕ) (at : Spot) (x : Part) → Spotted d at [] x → ⊥
+full_spot d leading x r = let (u, vs, cut, h) = begins_part d true [] x r in cc
+full_spot d (further may) x r = let (u, vs, cut, h) = begins_next d may [] x r in cc
+
+never_leading : (at : Spot) (x : Part) (u : Piece) → Spot_first (after_part at x) u → Next_first u
+never_leading at (items is) u h = h
+never_leading leading (imports n) u h = h
+never_leading (further may) (imports n) u h = h
+
+right_client : (d n : ℕ) → Right n End (grammar.Parts Block_at S_at form.Client d) (grammar.Parts Block_at S_at form.Client (suc d)) (read.parts block_at s_at form.Client d)
+unfolding read.parts read.part_at read.part_of
+right_client d n = right_tries End After_stmt (Spotted d) (Spotted (suc d)) (spotted d) after_part Spot_first (λ n at. right_spot d n at) (full_spot d) (begins_spot (suc d)) refl
+    (λ at u stop h. cc) (λ x stop. subst After_stmt (sym stop) tt) (λ at x u h. after_part_first u (never_leading at x u h)) n leading
+
+deeper_client : (d : ℕ) → Deeper (read.parts block_at s_at form.Client d) (read.parts block_at s_at form.Client (suc d))
+unfolding read.parts read.part_at read.part_of
+deeper_client d = deeper_tries (spotted d) (spotted (suc d)) after_part (deeper_spot d) leading
+
+-- the reader of a client reads the grammar's rule at each nesting
+pub client_grammar : Grammar_of End (λ d. grammar.Parts Block_at S_at form.Client d) (λ d. read.parts block_at s_at form.Client d)
+client_grammar = record { right = right_client; deeper = deeper_client }

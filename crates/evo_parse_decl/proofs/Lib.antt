@@ -1,0 +1,14 @@
+pub mod Sets
+pub mod Parses
+pub mod Tests
+pub mod Unless
+pub mod Prefixes
+pub mod Accessors
+pub mod Productions
+pub mod Members
+pub mod Declared
+pub mod Top
+pub mod Concrete
+pub mod Numbers
+pub mod ModuleParts
+pub mod ClientParts

@@ -1,0 +1,79 @@
+//! Declarations of their parts.
+
+ghost use Rattle.std.specs.Prelude.{◌≡◌, ◌∷◌, [], ◌++◌, ℕ, List, Bool, IfOk, map, flat_map};
+ghost use Rattle.evo_tree.specs.Declarations as grammar;
+
+use crate::attribute::{ordered_attributes, ordered_modifiers, with_access};
+use crate::gathered::Gathered;
+use crate::header::is_protocol;
+use crate::kind::Kinds;
+use crate::words::has_modifier;
+use evo_base::Place;
+use evo_tree::{Attr, Decl, DeclKind, Modifier, ModifierKind, Scope};
+use sqlite_items::Items;
+use std::alloc::{AllocError, Global};
+
+// Whether an access that is not written is `internal`.
+fn has_access(scope: Scope, modifiers: &[Modifier], kind: &DeclKind) -> bool
+    ensures { result ≡ grammar.has_access scope modifiers.now kind.now }
+{
+    if is_protocol(scope) {
+        return false;
+    }
+    match kind {
+        DeclKind::Function(..) => !has_modifier(ModifierKind::Override, modifiers),
+        DeclKind::Case(..) | DeclKind::Extension(..) => false,
+        _ => true,
+    }
+}
+
+fn declared(
+    alloc: Global,
+    scope: Scope,
+    attrs: &[Attr],
+    modifiers: &[Modifier],
+    place: Place,
+    kind: DeclKind,
+) -> Result<Decl, AllocError>
+    ensures { IfOk result (λ x. x ≡ grammar.declaration scope attrs.now modifiers.now place kind) }
+{
+    let wants = has_access(scope, modifiers, &kind);
+    let attrs = ordered_attributes(alloc, attrs)?;
+    let ordered = ordered_modifiers(alloc, modifiers)?;
+    let modifiers = with_access(alloc, ordered.as_slice(), place, wants)?;
+    Ok(Decl {
+        place,
+        attrs,
+        modifiers,
+        kind,
+    })
+}
+
+/// The declarations of these kinds.
+pub(crate) fn all_declared(
+    alloc: Global,
+    scope: Scope,
+    attrs: &[Attr],
+    modifiers: &[Modifier],
+    kinds: Kinds,
+) -> Result<Items<Decl>, AllocError>
+    ensures { IfOk result (λ ds. ds ≡ map (grammar.declaration scope attrs.now modifiers.now kinds.0) kinds.1) }
+{
+    let (place, kinds) = kinds;
+    let mut found = Items::new(alloc);
+    for kind in kinds.into_vec() {
+        found.push(declared(alloc, scope, attrs, modifiers, place, kind)?)?;
+    }
+    Ok(found)
+}
+
+/// The declarations of several places, one after the other.
+pub(crate) fn joined(alloc: Global, parts: Gathered<Items<Decl>>) -> Result<Items<Decl>, AllocError>
+    ensures { IfOk result (λ ds. ds ≡ flat_map (λ d. d) parts) }
+{
+    let mut found = Items::new(alloc);
+    for part in parts.into_vec() {
+        found.append(part)?;
+    }
+    Ok(found)
+}

@@ -1,0 +1,19 @@
+//! What the grammar of declarations and modules says by itself.
+
+ghost use Rattle.std.specs.Prelude.{◌≡◌, ℕ, List, Bool};
+ghost use Rattle.evo_tree.specs.declared.declaration.Decl.{Decl};
+ghost use Rattle.evo_tree.specs.Pieces.{Piece};
+ghost use Rattle.evo_tree.specs.Declarations.{IsDeclaration};
+ghost use Rattle.evo_tree.specs.declared.module.Form.{Form};
+ghost use Rattle.evo_tree.specs.Modules.{Part, Parts};
+ghost use Rattle.evo_parse_decl.specs.Closed.{Block_at, Stmt_at};
+
+/// Tokens spell at most one declaration at the top level, whatever the nesting.
+pub fn one_declaration()
+    ensures { (interface : Bool) (d e : ℕ) (us : List Piece) (a b : List Decl) → IsDeclaration Block_at interface d us a → IsDeclaration Block_at interface e us b → a ≡ b }
+{}
+
+/// Tokens spell the parts of at most one module of a form, whatever the nesting.
+pub fn one_module()
+    ensures { (f : Form) (d e : ℕ) (us : List Piece) (a b : List Part) → Parts Block_at Stmt_at f d us a → Parts Block_at Stmt_at f e us b → a ≡ b }
+{}
