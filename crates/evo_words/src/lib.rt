@@ -8,4 +8,5 @@ mod words;
 
 pub use laws::one_job;
 pub use module_name::is_module;
+pub use number::number_of;
 pub use words::{Job, job_of};
