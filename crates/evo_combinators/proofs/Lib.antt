@@ -17,3 +17,7 @@ pub mod Labels
 pub mod Nesting
 pub mod Folds
 pub mod NestingTries
+pub mod NestingRuns
+pub mod Ranges
+pub mod Says
+pub mod Answers

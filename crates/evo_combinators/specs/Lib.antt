@@ -6,3 +6,4 @@ pub mod Nesting
 pub mod Copies
 pub mod Attempt
 pub mod Three
+pub mod Contract

@@ -1,9 +1,8 @@
-pub mod Answers
 pub mod Examples
 pub mod More
 pub mod Nesting
 pub mod Opened
 pub mod Right
-pub mod Says
 pub mod Slices
 pub mod Tests
+pub mod Faulty

@@ -1,18 +1,13 @@
 -- What the answers of the parser of expressions say by themselves.
-use Rattle.std.specs.Prelude.{◌≡◌, ℕ, ◌≤◌, List, length}
+use Rattle.std.specs.Prelude.{◌≡◌, ℕ, List}
+use Rattle.evo_combinators.specs.Contract as contract
 use Rattle.evo_tree.specs.declared.expression.Expr.{Expr}
-use Rattle.evo_tree.specs.Pieces.{Piece}
+use Rattle.evo_tree.specs.Pieces.{Piece, opens_nesting}
 use Rattle.evo_tree.specs.Expressions.{IsExpr}
-use Rattle.evo_parse_expr.specs.Contract.{IsReadTo, IsRefusedAt, IsDeepAt}
 
 -- the answers exclude each other, and each has one place
-pub record OneAnswer (d : ℕ) (pieces : List Piece) (at : ℕ) : Type 0 where
-  pub read : (x y : Expr) (i j : ℕ) → IsReadTo d pieces at x i → IsReadTo d pieces at y j → (x ≡ y) × (i ≡ j)
-  pub refused : (i j : ℕ) → IsRefusedAt d pieces at i → IsRefusedAt d pieces at j → i ≡ j
-  pub deep : (i j : ℕ) → IsDeepAt d pieces at i → IsDeepAt d pieces at j → i ≡ j
-  pub read_or_refused : (x : Expr) (i j : ℕ) → IsReadTo d pieces at x i → IsRefusedAt d pieces at j → ⊥
-  pub read_or_deep : (x : Expr) (i j : ℕ) → IsReadTo d pieces at x i → IsDeepAt d pieces at j → ⊥
-  pub refused_or_deep : (i j : ℕ) → IsRefusedAt d pieces at i → IsDeepAt d pieces at j → ⊥
+abbrev pub OneAnswer : ℕ → List Piece → ℕ → Type 0
+OneAnswer d pieces at = contract.OneAnswer opens_nesting IsExpr d pieces at
 
 -- pieces spell at most one expression, of whatever nesting
 abbrev pub OneExpression : Type 0

@@ -14,5 +14,5 @@ pub use cursor::Cursor;
 pub use expression::{call, expr};
 pub use laws::{one_answer, one_expression};
 pub use lexeme::{Level, Lexeme, lexemes};
-pub use parse::{ParseFault, parse_expr};
+pub use parse::{ParseFault, fault_of, parse_expr};
 pub use types::type_name;

@@ -75,8 +75,8 @@ fn lexemes_from<'a>(
     lexemes(alloc, text, token_before(tokens, at), &tokens[at..])
 }
 
-// The fault whose place is so many tokens before the end.
-fn fault_of(
+/// The fault whose place is so many tokens before the end.
+pub fn fault_of(
     alloc: Global,
     text: &[u8],
     tokens: &[Token],

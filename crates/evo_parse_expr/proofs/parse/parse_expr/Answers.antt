@@ -4,7 +4,7 @@ use Rattle.evo_tree.specs.Pieces.{Piece, pieces}
 use Rattle.evo_parse_expr.specs.Contract.{IsReadTo}
 use Rattle.evo_parse_expr.specs.Read.{expr}
 use Rattle.evo_parse_expr.proofs.Slices.{length_pieces}
-use Rattle.evo_parse_expr.proofs.Says.{read_left, found, faulty}
+use Rattle.evo_parse_expr.proofs.Faulty.{read_left, found, faulty}
 use Rattle.evo_parse_expr.proofs.parse.parse_expr.Goals as goal
 
 pub overflow_sub-result : goal.overflow_sub-result
