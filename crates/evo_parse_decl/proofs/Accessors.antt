@@ -9,7 +9,7 @@ use Rattle.evo_combinators.specs.Rule.{Only, Nothing, Led, Or, Then, Some_of, Go
 use Rattle.evo_combinators.specs.Reader.{Outcome, ◌>>=◌, and_then, pure, refuse, alt, one, bar, barred, lead, paired, branch}
 use Rattle.evo_combinators.specs.Guard.{choose, starts, on}
 use Rattle.evo_combinators.specs.Laws.{Begins, Deeper, Like, Right, Takes, first, of_first}
-use Rattle.evo_combinators.proofs.Laws.{right_map, right_same, right_stop, right_ext, split_err, of_map, to_map}
+use Rattle.evo_combinators.proofs.Laws.{right_alt_by, right_nothing, right_map, right_same, right_stop, right_ext, split_err, of_map, to_map}
 use Rattle.evo_combinators.proofs.Entered.{refused_within}
 use Rattle.evo_combinators.proofs.Deeper.{deeper_then, deeper_alt, deeper_bar, same_refl}
 use Rattle.evo_combinators.proofs.GuardDeeper.{deeper_choose}
@@ -18,15 +18,20 @@ use Rattle.evo_tree.specs.declared.statement.Block.{Block}
 use Rattle.evo_tree.specs.declared.declaration.Accessors.{Accessors}
 use Rattle.evo_tree.specs.declared.declaration.Accessors.TheVariants as accessors
 use Rattle.evo_tree.specs.declared.terminal.Terminal.TheVariants as t
-use Rattle.evo_tree.specs.Pieces.{Piece, is_terminal, mark, word}
+use Rattle.evo_tree.specs.Pieces.{Piece, is_terminal, mark, word, opens_nesting}
 use Rattle.evo_tree.specs.Terminals.{number_of}
 use Rattle.evo_tree.specs.Expressions.{Rule, Nested}
 use Rattle.evo_tree.specs.Declarations as grammar
 use Rattle.evo_tree.specs.Declarations.{Unless, begins_accessors, is_get, goes_on_get}
 use Rattle.evo_parse_decl.specs.Read as read
 use Rattle.evo_parse_expr.specs.Read.{Reader}
+use Rattle.evo_combinators.specs.Nesting.{left_of, DeepOpens}
+use Rattle.evo_combinators.proofs.Nesting.{nest_refuse, nest_bar, nest_choose, deep_refuse, deep_alt, deep_choose}
+use Rattle.evo_combinators.proofs.NestingTries.{nest_made}
+use Rattle.evo_parse_expr.proofs.Nesting.{May, Nests}
+use Rattle.evo_combinators.proofs.NestingRuns.{nest_ext}
 use Rattle.evo_parse_decl.proofs.Sets.{Set, these, but, In, into, none_holds, Ends, Ends_or_brace}
-use Rattle.evo_parse_decl.proofs.Parses.{Test, Chooses, Parses, parses_pure, parses_then, parses_map, parses_led, parses_opens, parses_maybe, chooses_alt, parses_alt, chooses_nothing, parses_before}
+use Rattle.evo_parse_decl.proofs.Parses.{Test, Chooses, Parses, parses_pure, parses_then, parses_map, parses_led, parses_opens, parses_maybe, quiet, opening, parses_alt, chooses_nothing, parses_before}
 use Rattle.evo_parse_decl.proofs.Tests.{a_piece, mark_test, word_test, is_number, mark_is, is_marked, when_some}
 use Rattle.evo_lex.specs.Front.{when}
 use Rattle.evo_parse_decl.proofs.Unless.{right_unless}
@@ -45,6 +50,7 @@ is_close u = is_terminal t.CloseBrace u
 pub record Blocks (B : ℕ → Bool → Rule Block) (b : ℕ → Bool → Reader Block) : Type 0 where
   pub right : (d : ℕ) (i : Bool) (n : ℕ) → Right n (In (but [])) (B d i) (B (suc d) i) (b d i)
   pub deeper : (d : ℕ) (i : Bool) → Deeper (b d i) (b (suc d) i)
+  pub nest : (d : ℕ) (i : Bool) (n : ℕ) → Nests d n (B d i) (b d i)
   -- without nesting a brace is one too many
   pub shallow : (i : Bool) (ts : List Piece) → b 0 i ts ≡ bar (mark t.OpenBrace) refuse ts
   -- a block stands between braces
@@ -145,22 +151,23 @@ module _ (B : ℕ → Bool → Rule Block) (b : ℕ → Bool → Reader Block) (
       deeper = λ d. blocks.deeper d i;
       front = λ d us rest x s stop. let (u, vs, v, cut, is, is') = blocks.braced d i us x s in
           subst (λ y. In (these (68 ∷ [])) (first (y ++ rest))) (sym cut) (is_number t.OpenBrace u is);
+      nest = λ d n. blocks.nest d i n;
     };
     some = λ d. some_block d i;
   }
 
   parses_setter : Parses (these (0 ∷ 69 ∷ 100 ∷ [])) (these (69 ∷ 100 ∷ [])) (λ d. grammar.Setter B (suc d)) (λ d. read.setter b (suc d))
   unfolding read.setter
-  parses_setter = parses_alt refl refl refl (word_test (codes "set")) (λ _. parses_before refl refl (parses_map (λ x. Some x) (parses_block false))) (parses_pure refl None).chooses
+  parses_setter = parses_alt refl refl refl refl (word_test (codes "set")) (λ _. parses_before refl refl (parses_map (λ x. Some x) (parses_block false))) (parses_pure refl None).chooses
 
   parses_blocks_of : Parses (these (68 ∷ [])) Anything
       (λ d. Then (B d false) (λ g. Then (grammar.Setter B (suc d)) (λ x. Led (mark t.CloseBrace) (λ _. Only (accessors.Blocks g x)))))
       (λ d. b d false >>= (λ g. read.setter b (suc d) >>= (λ x. one (mark t.CloseBrace) >>= (λ _. pure (accessors.Blocks g x)))))
-  parses_blocks_of = parses_then refl (parses_block false) (λ g. parses_then refl parses_setter (λ x. parses_led {F = these (69 ∷ [])} refl refl (mark_test t.CloseBrace) (λ _. parses_pure refl (accessors.Blocks g x))))
+  parses_blocks_of = parses_then refl (parses_block false) (λ g. parses_then refl parses_setter (λ x. parses_led {F = these (69 ∷ [])} refl refl refl (mark_test t.CloseBrace) (λ _. parses_pure refl (accessors.Blocks g x))))
 
   parses_rest : Parses (these (0 ∷ [])) Anything (λ d. grammar.Rest_of_blocks B (suc d)) (λ d. read.rest_of_blocks b (suc d))
   unfolding read.rest_of_blocks
-  parses_rest = parses_led refl refl (word_test (codes "get")) (λ _. parses_blocks_of)
+  parses_rest = parses_led refl refl refl (word_test (codes "get")) (λ _. parses_blocks_of)
 
   -- ---- a list of accessors, with nesting
 
@@ -225,8 +232,8 @@ module _ (B : ℕ → Bool → Rule Block) (b : ℕ → Bool → Reader Block) (
 
     right_listed : (n : ℕ) → Right n (In Anything) (Listed (suc d)) (Listed (suc (suc d))) listed
     unfolding read.blocks
-    right_listed n = (chooses_alt {ns = 68 ∷ []} {F = these (68 ∷ [])} {H = these []} {G = these (0 ∷ [])} {S = λ e _. grammar.Rest_of_blocks B (suc e)} {R = λ _. Nothing} {q = λ e _. read.rest_of_blocks b (suc e)} {r = λ _. refuse} {f = mark t.OpenBrace}
-        refl refl refl (mark_test t.OpenBrace) (λ _. parses_rest) (chooses_nothing refl)).right d n
+    right_listed n = right_alt_by n (In Anything) (mark t.OpenBrace) (λ _. grammar.Rest_of_blocks B (suc d)) (λ _. grammar.Rest_of_blocks B (suc (suc d))) Nothing Nothing (λ _. read.rest_of_blocks b (suc d)) refuse
+        (λ _. parses_rest.chooses.right d (n - 1)) (right_nothing n (In Anything) refl) (λ _. parses_rest.some d) (λ us rest x none stop. absurd none)
 
     right_plain : (n : ℕ) → Right n (In Anything) (Plain (suc d)) (Plain (suc (suc d))) plain
     unfolding read.getter
@@ -495,6 +502,59 @@ module _ (B : ℕ → Bool → Rule Block) (b : ℕ → Bool → Reader Block) (
   unfolding read.braces read.getter
   deeper_braced d = deeper_choose begins_accessors (read.blocks b d) (read.blocks b (suc d)) _ _ (deeper_listed d) (deeper_then (b d false) (b (suc d) false) _ _ (blocks.deeper d false) (λ x. same_refl (pure (accessors.Block x))))
 
+  -- ---- which tokens open a nesting
+
+  brace_opens : (u : Piece) (p : Place) → mark t.OpenBrace u ≡ Some p → opens_nesting u ≡ true
+  brace_opens = opening (68 ∷ []) (mark t.OpenBrace) refl (mark_test t.OpenBrace).numbers
+
+  opening_get : (v : Piece) → opens_nesting v ≡ true → is_get v ≡ false
+  opening_get v opens = elim (which (is_get v)) [
+    | inl is ↦ absurd (quiet (0 ∷ []) (word (codes "get")) refl (word_test (codes "get")).numbers v v.place (get_word v is) opens)
+    | inr isnt ↦ isnt
+  ]
+
+  module _ (d : ℕ) where
+    -- with the brace of a list a block goes on, and with what opens behind it a list
+    listed_keeps : (n : ℕ) (us : List Piece) (w : Piece) (more : List Piece) → length (us ++ w ∷ more) ≤ n → opens_nesting w ≡ true →
+        begins_accessors (us ++ w ∷ more) ≡ true → left_of (listed d (us ++ w ∷ more)) ≤ length more → Goes (Braced (suc d)) (us ++ w ∷ [])
+    listed_keeps n [] w more fits opens is le = braced_goes d w (open_of w more is)
+    listed_keeps n (u ∷ us) w more fits opens is le =
+        let brace = open_of u (us ++ w ∷ more) is in
+        let (held, (ws, x, s)) = (parses_rest.chooses.nest d n).keeps us w more (omega arith) opens (subst (λ o. left_of o ≤ length more) (listed_behind d u (us ++ w ∷ more) brace) le) in
+        (ws, x, inl (inl (u, u.place, (us ++ w ∷ []) ++ ws, refl, is_marked t.OpenBrace u brace, s)))
+
+    -- a block that goes on with what opens a nesting may begin no list
+    plain_keeps : (us : List Piece) (w : Piece) (more : List Piece) → opens_nesting w ≡ true → begins_accessors (us ++ w ∷ more) ≡ false → Goes (Plain (suc d)) (us ++ w ∷ []) → Goes (Braced (suc d)) (us ++ w ∷ [])
+    plain_keeps [] w more opens isnt (ws, x, s) = elim (which (begins_accessors (w ∷ ws))) [
+      | inl is ↦ braced_goes d w (open_of w ws is)
+      | inr isnt' ↦ (ws, x, inr (isnt', s))
+    ]
+    plain_keeps (u ∷ []) w more opens isnt (ws, x, s) = (ws, x, inr (no_get u w ws (opening_get w opens), s))
+    plain_keeps (u ∷ v ∷ []) w more opens isnt (ws, x, s) = (ws, x, inr (isnt, s))
+    plain_keeps (u ∷ v ∷ x ∷ us) w more opens isnt (ws, y, s) = (ws, y, inr (isnt, s))
+
+    deep_opens_listed : (n : ℕ) → DeepOpens n opens_nesting (listed d)
+    unfolding read.blocks
+    deep_opens_listed n = deep_alt opens_nesting n (mark t.OpenBrace) (λ _. read.rest_of_blocks b (suc d)) refuse (λ _. (parses_rest.chooses.nest d (n - 1)).deep) (deep_refuse opens_nesting n)
+
+    nest_plain : (n : ℕ) → Nests (suc d) n (Plain (suc d)) (plain d)
+    unfolding read.getter
+    nest_plain n = nest_made (May (suc d)) opens_nesting n (B (suc d) false) (b (suc d) false) (λ x. accessors.Block x) (blocks.nest (suc d) false n)
+
+    braced_keeps : (n : ℕ) (us : List Piece) (w : Piece) (more : List Piece) → length (us ++ w ∷ more) ≤ n → opens_nesting w ≡ true →
+        (c : Bool) → begins_accessors (us ++ w ∷ more) ≡ c → left_of (cond c (listed d (us ++ w ∷ more)) (plain d (us ++ w ∷ more))) ≤ length more → Goes (Braced (suc d)) (us ++ w ∷ [])
+    braced_keeps n us w more fits opens true is le = listed_keeps n us w more fits opens is le
+    braced_keeps n us w more fits opens false isnt le = plain_keeps us w more opens isnt ((nest_plain n).keeps us w more fits opens le).1
+
+  nest_braced : (d n : ℕ) → Nests d n (Braced d) (read.braces b d true)
+  unfolding read.braces
+  nest_braced zero n = nest_ext (May 0) opens_nesting n (Braced 0) barred_open (read.braces b 0 true) shallow_same
+      (nest_bar (May 0) opens_nesting n (mark t.OpenBrace) (Braced 0) refuse brace_opens (nest_refuse (May 0) opens_nesting n (Braced 0)))
+  nest_braced (suc d) n = record {
+    keeps = λ us w more fits opens le. (tt, braced_keeps d n us w more fits opens (begins_accessors (us ++ w ∷ more)) refl le);
+    deep = deep_choose opens_nesting n begins_accessors (listed d) (plain d) (deep_opens_listed d n) (nest_plain d n).deep;
+  }
+
   braced_front : (d : ℕ) (us rest : List Piece) (x : Accessors) → Braced d us x → In Anything (first rest) → In (these (68 ∷ [])) (first (us ++ rest))
   braced_front d us rest x (inl listed) stop = go d us x listed
     where
@@ -508,16 +568,16 @@ module _ (B : ℕ → Bool → Rule Block) (b : ℕ → Bool → Reader Block) (
   -- "{" "get" ["set"] "}"
   parses_rest_of_gets : Parses (these (0 ∷ [])) Anything (λ _. grammar.Rest_of_gets) (λ _. read.rest_of_gets)
   unfolding read.rest_of_gets
-  parses_rest_of_gets = parses_led refl refl (word_test (codes "get")) (λ _. parses_alt {F = Anything} {H = these (69 ∷ [])} refl refl refl (word_test (codes "set"))
-      (λ _. parses_led {F = Anything} refl refl (mark_test t.CloseBrace) (λ _. parses_pure refl accessors.GetSet)) (parses_led refl refl (mark_test t.CloseBrace) (λ _. parses_pure refl accessors.Get)).chooses)
+  parses_rest_of_gets = parses_led refl refl refl (word_test (codes "get")) (λ _. parses_alt {F = Anything} {H = these (69 ∷ [])} refl refl refl refl (word_test (codes "set"))
+      (λ _. parses_led {F = Anything} refl refl refl (mark_test t.CloseBrace) (λ _. parses_pure refl accessors.GetSet)) (parses_led refl refl refl (mark_test t.CloseBrace) (λ _. parses_pure refl accessors.Get)).chooses)
 
   pub parses_braces : (bodies : Bool) → Parses (these (68 ∷ [])) Anything (λ d. grammar.Braces B d bodies) (λ d. read.braces b d bodies)
   unfolding read.braces
   parses_braces true = record {
-    chooses = record { right = right_braced; deeper = deeper_braced; front = braced_front };
+    chooses = record { right = right_braced; deeper = deeper_braced; front = braced_front; nest = nest_braced };
     some = λ d. let (us, x, s) = braced_goes d (a_piece t.OpenBrace []) a_brace in (_, x, s);
   }
-  parses_braces false = parses_opens {H = these []} refl refl refl (mark_test t.OpenBrace) (λ _. parses_rest_of_gets.some 0) (λ _. parses_rest_of_gets) (chooses_nothing refl)
+  parses_braces false = parses_opens {H = these []} refl refl refl refl (mark_test t.OpenBrace) (λ _. parses_rest_of_gets.some 0) (λ _. parses_rest_of_gets) (chooses_nothing refl)
 
   -- a brace is not refused
   takes_braces : (bodies : Bool) (d : ℕ) (u : Piece) → is_open u ≡ true → Takes (read.braces b d bodies) u
@@ -570,6 +630,8 @@ module _ (B : ℕ → Bool → Rule Block) (b : ℕ → Bool → Reader Block) (
         | inl s' ↦ into (these (68 ∷ [])) Ends_or_brace refl (first (us ++ rest)) ((parses_braces bodies).chooses.front d us rest x s' refl)
         | inr s' ↦ into Ends Ends_or_brace refl (first (us ++ rest)) ((parses_stored may).front d us rest x s' stop)
       ];
+      nest = λ d n. nest_choose (May d) opens_nesting n (starts is_open) (grammar.Braces B d bodies) (grammar.Stored may) (read.braces b d bodies) (read.stored may)
+          ((parses_braces bodies).chooses.nest d n) ((parses_stored may).nest d n);
     };
     some = λ d. let (us, x, s) = (parses_braces bodies).some d in (us, x, inl s);
   }

@@ -23,14 +23,23 @@ use Rattle.evo_tree.specs.declared.declaration.Decl.{Decl}
 use Rattle.evo_tree.specs.declared.terminal.Terminal.{Terminal}
 use Rattle.evo_tree.specs.declared.terminal.Terminal.TheVariants as t
 use Rattle.evo_tree.specs.Terminals.{number_of}
-use Rattle.evo_tree.specs.Pieces.{Piece, is_terminal, mark, identifier}
+use Rattle.evo_tree.specs.Pieces.{Piece, is_terminal, mark, identifier, opens_nesting}
 use Rattle.evo_tree.specs.Expressions.{Rule}
 use Rattle.evo_tree.specs.Statements.{IsStmt, Later, is_later}
 use Rattle.evo_tree.specs.Declarations.{nominal_word, IsDeclaration, only_if, Below, Next}
-use Rattle.evo_tree.specs.Modules.{Part, imports, items, Spot, leading, further, after_part}
+use Rattle.evo_tree.specs.declared.module.ModulePart.{ModulePart}
+use Rattle.evo_tree.specs.declared.module.ModulePart.TheVariants.{Import as imports, Items as items}
+use Rattle.evo_tree.specs.declared.module.PartSpot.{PartSpot}
+use Rattle.evo_tree.specs.declared.module.PartSpot.TheVariants.{Leading as leading, Further as further}
+use Rattle.evo_tree.specs.Modules.{after_part}
 use Rattle.evo_parse_decl.proofs.Parses.{Parses, parses_led, parses_pure, skipped, never}
 use Rattle.evo_tree.specs.Modules as grammar
 use Rattle.evo_parse_expr.specs.Read.{Reader}
+use Rattle.evo_combinators.proofs.Nesting.{nest_by, nest_choose, nest_quiet}
+use Rattle.evo_combinators.proofs.NestingTries.{nest_made, nest_ahead, nest_tries}
+use Rattle.evo_parse_expr.proofs.Tests.{quiet_mark}
+use Rattle.evo_parse_expr.proofs.Nesting.{May, Nests}
+use Rattle.evo_combinators.proofs.NestingRuns.{nest_ext, nest_filter}
 use Rattle.evo_parse_stmt.specs.Read.{stmt}
 use Rattle.evo_parse_stmt.proofs.Follows.{After, After_stmt, Starts, leading as statement_words, Fresh, fresh_apart, expression_codes, after_at, next_after, later_no_dot}
 use Rattle.evo_parse_expr.proofs.Tests.{rank_at, opens_expr}
@@ -39,7 +48,7 @@ use Rattle.evo_parse_stmt.proofs.Tests as their
 use Rattle.evo_parse_stmt.proofs.Tests.{assigning_codes}
 use Rattle.evo_combinators.proofs.FilterLaws.{right_filter}
 use Rattle.evo_combinators.proofs.Attempts.{right_tries, deeper_tries}
-use Rattle.evo_parse_stmt.proofs.Family.{laws, stmt_grammar}
+use Rattle.evo_parse_stmt.proofs.Family.{laws, stmt_grammar, nest_stmt}
 use Rattle.evo_parse_decl.specs.Closed.{Block_at, block_at}
 use Rattle.evo_parse_decl.specs.Read.{begins_top, is_modifier, next}
 use Rattle.evo_parse_decl.specs.ReadModules as read
@@ -171,22 +180,22 @@ item_not n far no_lead no_expr u (inr stands) is = starts_apart stands.starts
     starts_apart (inl lead) = apart (n ∷ []) statement_words (number_of u.terminal) no_lead is lead
     starts_apart (inr fresh) = fresh_apart (n ∷ []) no_expr u fresh is
 
-abbrev Imported : Place → Rule Part
+abbrev Imported : Place → Rule ModulePart
 Imported _ = Led identifier (λ n. Only (imports n))
 
-abbrev imported : Place → Reader Part
+abbrev imported : Place → Reader ModulePart
 imported _ = one identifier >>= (λ n. pure (imports n))
 
-abbrev Y : ℕ → Rule Part
+abbrev Y : ℕ → Rule ModulePart
 Y d = Then (grammar.Items Block_at S_at form.Client d) (λ is. Only (items is))
 
-abbrev itemed : ℕ → Reader Part
+abbrev itemed : ℕ → Reader ModulePart
 itemed d = read.items_of block_at s_at form.Client d >>= (λ is. pure (items is))
 
-abbrev P_of : ℕ → Bool → Rule Part
+abbrev P_of : ℕ → Bool → Rule ModulePart
 P_of d may = grammar.Part_of Block_at S_at form.Client d may
 
-abbrev part : ℕ → Bool → Reader Part
+abbrev part : ℕ → Bool → Reader ModulePart
 part d may = alt (only_if may (mark t.Import)) imported (itemed d)
 
 right_itemed : (d n : ℕ) → Right n After_stmt (Y d) (Y (suc d)) (itemed d)
@@ -196,7 +205,7 @@ begins_itemed : (d : ℕ) → Begins Item_first (Y d)
 begins_itemed d = begins_then Item_first (grammar.Items Block_at S_at form.Client d) (λ is. Only (items is)) (begins_items d)
 
 parses_imported : (p : Place) → Parses (these (0 ∷ [])) (but []) (λ _. Imported p) (λ _. imported p)
-parses_imported p = parses_led refl refl identifier_test (λ n. parses_pure refl (imports n))
+parses_imported p = parses_led refl refl refl identifier_test (λ n. parses_pure refl (imports n))
 
 right_part : (d n : ℕ) (may : Bool) → Right n After_stmt (P_of d may) (P_of (suc d) may) (part d may)
 right_part d n true = right_alt_by n After_stmt (mark t.Import) Imported Imported (Y d) (Y (suc d)) imported (itemed d)
@@ -217,7 +226,7 @@ begins_part : (d : ℕ) (may : Bool) → Begins Part_first (P_of d may)
 begins_part d may us x (inl (u, p, vs, cut, takes, r)) = (u, vs, cut, inl (import_first may u p takes))
 begins_part d may us x (inr r) = let (u, vs, cut, h) = begins_itemed d us x r in (u, vs, cut, inr h)
 
-full_part : (d : ℕ) (may : Bool) (x : Part) → P_of d may [] x → ⊥
+full_part : (d : ℕ) (may : Bool) (x : ModulePart) → P_of d may [] x → ⊥
 full_part d may x r = let (u, vs, cut, h) = begins_part d may [] x r in cc
 
 some_part : (d : ℕ) (may : Bool) → Some_of (P_of (suc d) may)
@@ -227,14 +236,14 @@ part_semicolon : (u : Piece) (p : Place) → Part_first u → mark t.Semicolon u
 part_semicolon u p (inl is) takes = none_holds (these (4 ∷ [])) (number_of u.terminal) (71 ∷ []) refl (is_number t.Semicolon u (mark_is t.Semicolon u p takes)) (is_number t.Import u is)
 part_semicolon u p (inr h) takes = item_not 71 refl refl refl u h (is_number t.Semicolon u (mark_is t.Semicolon u p takes))
 
-no_nothing : (R : Rule Part) (us : List Piece) (x : Part) → Or R Nothing us x → R us x
+no_nothing : (R : Rule ModulePart) (us : List Piece) (x : ModulePart) → Or R Nothing us x → R us x
 no_nothing R us x (inl r) = r
 no_nothing R us x (inr none) = absurd none
 
-abbrev Lower : ℕ → Bool → Rule Part
+abbrev Lower : ℕ → Bool → Rule ModulePart
 Lower d may = Or (Below (P_of d may)) Nothing
 
-abbrev lower : ℕ → Bool → Reader Part
+abbrev lower : ℕ → Bool → Reader ModulePart
 lower d may = on (λ u. u.below) (part d may) refuse
 
 right_lower : (d n : ℕ) (may : Bool) → Right n After_stmt (Lower d may) (Lower (suc d) may) (lower d may)
@@ -313,35 +322,35 @@ begins_next d may us x (inr r) = let (u, vs, cut, h) = begins_lower d may us x r
 
 -- ---- whole clients
 
-abbrev Spotted : ℕ → Spot → Rule Part
+abbrev Spotted : ℕ → PartSpot → Rule ModulePart
 Spotted d leading = P_of d true
 Spotted d (further may) = Next (P_of d may)
 
-abbrev spotted : ℕ → Spot → Reader Part
+abbrev spotted : ℕ → PartSpot → Reader ModulePart
 spotted d leading = part d true
 spotted d (further may) = next (part d may)
 
-abbrev Spot_first : Spot → Piece → Type 0
+abbrev Spot_first : PartSpot → Piece → Type 0
 Spot_first leading u = Part_first u
 Spot_first (further may) u = Next_first u
 
-right_spot : (d n : ℕ) (at : Spot) → Right n After_stmt (Spotted d at) (Spotted (suc d) at) (spotted d at)
+right_spot : (d n : ℕ) (at : PartSpot) → Right n After_stmt (Spotted d at) (Spotted (suc d) at) (spotted d at)
 right_spot d n leading = right_part d n true
 right_spot d n (further may) = right_next d n may
 
-deeper_spot : (d : ℕ) (at : Spot) → Deeper (spotted d at) (spotted (suc d) at)
+deeper_spot : (d : ℕ) (at : PartSpot) → Deeper (spotted d at) (spotted (suc d) at)
 deeper_spot d leading = deeper_part d true
 deeper_spot d (further may) = deeper_next d may
 
-begins_spot : (d : ℕ) (at : Spot) → Begins (Spot_first at) (Spotted d at)
+begins_spot : (d : ℕ) (at : PartSpot) → Begins (Spot_first at) (Spotted d at)
 begins_spot d leading = begins_part d true
 begins_spot d (further may) = begins_next d may
 
-full_spot : (d : ℕ) (at : Spot) (x : Part) → Spotted d at [] x → ⊥
+full_spot : (d : ℕ) (at : PartSpot) (x : ModulePart) → Spotted d at [] x → ⊥
 full_spot d leading x r = let (u, vs, cut, h) = begins_part d true [] x r in cc
 full_spot d (further may) x r = let (u, vs, cut, h) = begins_next d may [] x r in cc
 
-never_leading : (at : Spot) (x : Part) (u : Piece) → Spot_first (after_part at x) u → Next_first u
+never_leading : (at : PartSpot) (x : ModulePart) (u : Piece) → Spot_first (after_part at x) u → Next_first u
 never_leading at (items is) u h = h
 never_leading leading (imports n) u h = h
 never_leading (further may) (imports n) u h = h
@@ -358,3 +367,38 @@ deeper_client d = deeper_tries (spotted d) (spotted (suc d)) after_part (deeper_
 -- the reader of a client reads the grammar's rule at each nesting
 pub client_grammar : Grammar_of End (λ d. grammar.Parts Block_at S_at form.Client d) (λ d. read.parts block_at s_at form.Client d)
 client_grammar = record { right = right_client; deeper = deeper_client }
+
+-- ---- which tokens open a nesting
+
+nest_declared : (d n : ℕ) → Nests d n (D d) (declared d)
+nest_declared d n = (parses_declared Block_at block_at blocks S_at s_at form.Client).chooses.nest d n
+
+nest_stated : (d n : ℕ) → Nests d n (X d) (stated d)
+nest_stated d n = nest_made (May d) opens_nesting n (S_at d) (s_at d) (λ x. item.Stmt x ∷ []) (nest_ahead (May d) opens_nesting n is_later (IsStmt false d) (stmt false d) (nest_stmt false d n))
+
+nest_items : (d n : ℕ) → Nests d n (grammar.Items Block_at S_at form.Client d) (read.items_of block_at s_at form.Client d)
+unfolding read.items_of
+nest_items d n = nest_choose (May d) opens_nesting n (starts begins_top) (D d) (X d) (declared d) (stated d) (nest_declared d n) (nest_stated d n)
+
+nest_itemed : (d n : ℕ) → Nests d n (Y d) (itemed d)
+nest_itemed d n = nest_made (May d) opens_nesting n (grammar.Items Block_at S_at form.Client d) (read.items_of block_at s_at form.Client d) (λ is. items is) (nest_items d n)
+
+nest_part : (d n : ℕ) (may : Bool) → Nests d n (P_of d may) (part d may)
+nest_part d n true = nest_quiet (May d) opens_nesting n (mark t.Import) Imported (Y d) imported (itemed d) (quiet_mark t.Import refl) (λ p. (parses_imported p).chooses.nest d (n - 1)) (nest_itemed d n)
+nest_part d n false = nest_ext (May d) opens_nesting n (P_of d false) (itemed d) (part d false) (skipped (mark t.Import) imported (itemed d))
+    (nest_by (May d) opens_nesting n (Y d) (P_of d false) (itemed d) (λ us x r. inr r) (nest_itemed d n))
+
+nest_lower : (d n : ℕ) (may : Bool) → Nests d n (Lower d may) (lower d may)
+nest_lower d n may = nest_by (May d) opens_nesting n (Below (P_of d may)) (Lower d may) (lower d may) (λ us x r. inl r) (nest_filter (May d) opens_nesting n (λ u. u.below) (P_of d may) (part d may) (nest_part d n may))
+
+nest_next : (d n : ℕ) (may : Bool) → Nests d n (Next (P_of d may)) (next (part d may))
+unfolding next
+nest_next d n may = nest_quiet (May d) opens_nesting n (mark t.Semicolon) (λ _. P_of d may) (Lower d may) (λ _. part d may) (lower d may) (quiet_mark t.Semicolon refl) (λ _. nest_part d (n - 1) may) (nest_lower d n may)
+
+nest_spot : (d n : ℕ) (at : PartSpot) → Nests d n (Spotted d at) (spotted d at)
+nest_spot d n leading = nest_part d n true
+nest_spot d n (further may) = nest_next d n may
+
+pub nest_client : (d n : ℕ) → Nests d n (grammar.Parts Block_at S_at form.Client d) (read.parts block_at s_at form.Client d)
+unfolding read.parts read.part_at read.part_of
+nest_client d n = nest_tries (May d) opens_nesting After_stmt (Spotted d) (Spotted (suc d)) (spotted d) after_part Spot_first (λ n at. right_spot d n at) (full_spot d) (begins_spot (suc d)) (λ n at. nest_spot d n at) n leading

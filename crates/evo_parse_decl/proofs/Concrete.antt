@@ -21,7 +21,7 @@ use Rattle.evo_tree.specs.Declarations.{is_get}
 use Rattle.evo_parse_stmt.specs.Read.{block, block_of, inner_of}
 use Rattle.evo_parse_expr.specs.Read.{Reader}
 use Rattle.evo_parse_expr.proofs.Right.{named_expr}
-use Rattle.evo_parse_stmt.proofs.Family.{block_grammar}
+use Rattle.evo_parse_stmt.proofs.Family.{block_grammar, nest_block}
 use Rattle.evo_parse_decl.proofs.Sets.{Set, these, but, In}
 use Rattle.evo_parse_decl.proofs.Tests.{mark_is, is_marked, get_utf8, a_piece}
 use Rattle.evo_parse_decl.proofs.Accessors.{Blocks}
@@ -51,6 +51,7 @@ unfolding block_of
 blocks = record {
   right = λ d i n. right_stop n _ (In (but [])) (IsBlock i d) (IsBlock i (suc d)) (block i d) (λ x h. tt) refl ((block_grammar i).right d n);
   deeper = λ d i. (block_grammar i).deeper d;
+  nest = λ d i n. nest_block i d n;
   shallow = λ i ts. refl;
   braced = braced;
   empty = λ d i u v is is'. (grammar.block u.place [] v.place, inl (u, u.place, v ∷ [], refl, is_marked t.OpenBrace u is, ([], [], v ∷ [], refl, refl, (v, v.place, [], refl, is_marked t.CloseBrace v is', (refl, refl)))));

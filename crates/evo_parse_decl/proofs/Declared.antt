@@ -21,13 +21,16 @@ use Rattle.evo_tree.specs.declared.declaration.Decl.{Decl}
 use Rattle.evo_tree.specs.declared.scope.Scope.{Scope}
 use Rattle.evo_tree.specs.declared.terminal.Terminal.TheVariants as t
 use Rattle.evo_tree.specs.Terminals.{number_of}
-use Rattle.evo_tree.specs.Pieces.{Piece, is_terminal, mark, word}
+use Rattle.evo_tree.specs.Pieces.{Piece, is_terminal, mark, word, opens_nesting}
 use Rattle.evo_tree.specs.Expressions.{Rule}
 use Rattle.evo_tree.specs.Declarations as grammar
 use Rattle.evo_tree.specs.declared.declaration.AttrKind.TheVariants as attr
 use Rattle.evo_tree.specs.Declarations.{attribute, declaration, modifier_word, Declaration_of, Lines, Next, Below}
 use Rattle.evo_parse_decl.specs.Read as read
 use Rattle.evo_parse_expr.specs.Read.{Reader}
+use Rattle.evo_combinators.proofs.Nesting.{nest_pure, nest_by, nest_choose}
+use Rattle.evo_parse_expr.proofs.Nesting.{May}
+use Rattle.evo_combinators.proofs.NestingRuns.{nest_filter}
 use Rattle.evo_parse_decl.specs.Read.{begins_declaration, is_modifier, goes_on}
 use Rattle.evo_parse_decl.proofs.Sets.{Set, these, but, In, included, contains, among, Ends, none_holds, into}
 use Rattle.evo_parse_decl.proofs.Parses.{Test, Chooses, Parses, parses_pure, parses_as, parses_before, parses_then, parses_map, parses_led, parses_alt, chooses_alt, chooses_nothing, parses_run}
@@ -171,11 +174,13 @@ module _ {A : Type 0} (F : Set) (g : Piece → Bool) (S : ℕ → Rule A) (p : �
         let (v, vs, cut, is, s') = no_nothing (Below (S d)) us x s in
         let (u, ws, cut', h) = entered.begins d us x s' in
         subst (λ k. In (these Firsts) (first (k ++ rest))) (sym cut') (entered.numbers u h);
+    nest = λ d n. nest_by (May d) opens_nesting n (Below (S d)) (Or (Below (S d)) Nothing) (on (λ u. u.below) (p d) refuse) (λ us x s. inl s)
+        (nest_filter (May d) opens_nesting n (λ u. u.below) (S d) (p d) (entered.fits.chooses.nest d n));
   }
 
   pub parses_next : Parses (these (71 ∷ Firsts)) Ends (λ d. Next (S d)) (λ d. read.next (p d))
   unfolding read.next
-  parses_next = parses_alt {H = these Firsts} refl refl refl (mark_test t.Semicolon) (λ _. entered.fits) chooses_below
+  parses_next = parses_alt {H = these Firsts} refl refl refl refl (mark_test t.Semicolon) (λ _. entered.fits) chooses_below
 
   pub begins_next : (d : ℕ) → Begins (λ u. goes_on g u ≡ true) (Next (S d))
   begins_next d us x (inl (u, q, vs, cut, takes, s)) = (u, vs, cut, or_left (is_terminal t.Semicolon u) _ (mark_is t.Semicolon u q takes))
@@ -244,6 +249,7 @@ module _ {A : Type 0} (F : Set) (g : Piece → Bool) (S : ℕ → Rule A) (p : �
         | inl s' ↦ into F (these (69 ∷ 100 ∷ 71 ∷ Firsts)) wide (first (us ++ rest)) (parses_all.chooses.front d us rest x s' stop)
         | inr s' ↦ subst (λ y. In (these (69 ∷ 100 ∷ 71 ∷ Firsts)) (first (y ++ rest))) (sym s'.0) (into (these (69 ∷ 100 ∷ [])) (these (69 ∷ 100 ∷ 71 ∷ Firsts)) refl (first rest) stop)
       ];
+      nest = λ d n. nest_choose (May d) opens_nesting n (starts g) (All d) (Only []) (all d) (pure []) (parses_all.chooses.nest d n) (nest_pure (May d) opens_nesting n (Only []) []);
     };
     some = λ d. ([], [], inr (refl, refl));
   }

@@ -12,3 +12,4 @@ pub mod Concrete
 pub mod Numbers
 pub mod ModuleParts
 pub mod ClientParts
+pub mod Whole

@@ -92,7 +92,7 @@ module _ (B : ℕ → Bool → Rule Block) (b : ℕ → Bool → Reader Block) (
   module _ (interface : Bool) (s : Scope) where
     pub parses_function : (attrs : List Attr) (p : Place) → Parses (these (0 ∷ [])) Ends (λ d. grammar.Rest_of_function B interface s d attrs p) (λ d. read.rest_of_function b interface s d attrs p)
     unfolding read.rest_of_function
-    parses_function attrs p = parses_led refl refl identifier_test (λ n. parses_then refl (parses_header s true) (λ h. parses_map (λ x. one_kind p (k.Function n h x)) (parses_body false (has_body interface s attrs))))
+    parses_function attrs p = parses_led refl refl refl identifier_test (λ n. parses_then refl (parses_header s true) (λ h. parses_map (λ x. one_kind p (k.Function n h x)) (parses_body false (has_body interface s attrs))))
 
     parses_initialiser : (attrs : List Attr) (p : Place) → Parses (these (49 ∷ 66 ∷ 100 ∷ [])) Ends (λ d. grammar.Rest_of_initialiser B interface s d attrs p) (λ d. read.rest_of_initialiser b interface s d attrs p)
     unfolding read.rest_of_initialiser
@@ -100,19 +100,19 @@ module _ (B : ℕ → Bool → Rule Block) (b : ℕ → Bool → Reader Block) (
 
     parses_var : (attrs : List Attr) (p : Place) → Parses (these (0 ∷ [])) Ends (λ d. grammar.Rest_of_var B interface s d attrs p) (λ d. read.rest_of_var b interface s d attrs p)
     unfolding read.rest_of_var
-    parses_var attrs p = parses_led refl refl identifier_test (λ n. parses_led {F = Anything} refl refl (mark_test t.Colon)
+    parses_var attrs p = parses_led refl refl refl identifier_test (λ n. parses_led {F = Anything} refl refl refl (mark_test t.Colon)
         (λ _. parses_then refl parses_type (λ type. parses_map (λ a. one_kind p (k.Property introducer.Var n type a)) (parses_accessors B b blocks (has_body interface s attrs) (may_be_stored interface s attrs)))))
 
     chooses_kind : (attrs : List Attr) → Chooses (these Kind_words) Ends (λ d. grammar.Member_kind B interface s d attrs) (λ d. read.member_kind b interface s d attrs)
     unfolding read.member_kind
     chooses_kind attrs =
-        chooses_alt_if {H = these (11 ∷ 12 ∷ 13 ∷ 14 ∷ 15 ∷ 16 ∷ [])} refl refl refl (may_stand interface s attrs) (mark_test t.Func) (λ _ p. parses_function attrs p)
-        (chooses_alt_if {H = these (12 ∷ 13 ∷ 14 ∷ 15 ∷ 16 ∷ [])} refl refl refl (not (is_protocol s)) (mark_test t.Init) (λ _ p. parses_initialiser attrs p)
-        (chooses_alt_if {H = these (13 ∷ 14 ∷ 15 ∷ 16 ∷ [])} refl refl refl (may_stand interface s attrs) (mark_test t.Var) (λ _ p. parses_var attrs p)
-        (chooses_alt_if {H = these (14 ∷ 15 ∷ 16 ∷ [])} refl refl refl (may_be_stored interface s attrs) (mark_test t.Let) (λ _ p. parses_let p)
-        (chooses_alt_if {H = these (15 ∷ 16 ∷ [])} refl refl refl (not (is_protocol s)) (mark_test t.Typealias) (λ _ p. parses_alias p)
-        (chooses_alt_if {H = these (16 ∷ [])} refl refl refl (is_protocol s) (mark_test t.Associatedtype) (λ _ p. parses_associated p)
-        (chooses_alt_if {H = these []} refl refl refl (is_enum s) (mark_test t.Case) (λ _ p. parses_before refl refl (parses_cases p)) (chooses_nothing refl)))))))
+        chooses_alt_if {H = these (11 ∷ 12 ∷ 13 ∷ 14 ∷ 15 ∷ 16 ∷ [])} refl refl refl refl (may_stand interface s attrs) (mark_test t.Func) (λ _ p. parses_function attrs p)
+        (chooses_alt_if {H = these (12 ∷ 13 ∷ 14 ∷ 15 ∷ 16 ∷ [])} refl refl refl refl (not (is_protocol s)) (mark_test t.Init) (λ _ p. parses_initialiser attrs p)
+        (chooses_alt_if {H = these (13 ∷ 14 ∷ 15 ∷ 16 ∷ [])} refl refl refl refl (may_stand interface s attrs) (mark_test t.Var) (λ _ p. parses_var attrs p)
+        (chooses_alt_if {H = these (14 ∷ 15 ∷ 16 ∷ [])} refl refl refl refl (may_be_stored interface s attrs) (mark_test t.Let) (λ _ p. parses_let p)
+        (chooses_alt_if {H = these (15 ∷ 16 ∷ [])} refl refl refl refl (not (is_protocol s)) (mark_test t.Typealias) (λ _ p. parses_alias p)
+        (chooses_alt_if {H = these (16 ∷ [])} refl refl refl refl (is_protocol s) (mark_test t.Associatedtype) (λ _ p. parses_associated p)
+        (chooses_alt_if {H = these []} refl refl refl refl (is_enum s) (mark_test t.Case) (λ _ p. parses_before refl refl (parses_cases p)) (chooses_nothing refl)))))))
 
     alias_or_associated : (attrs : List Attr) (d : ℕ) → (is_protocol s ≡ true) ⊎ (is_protocol s ≡ false) → Some_of (grammar.Member_kind B interface s (suc d) attrs)
     alias_or_associated attrs d (inl is) =

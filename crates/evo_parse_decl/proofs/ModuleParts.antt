@@ -20,12 +20,20 @@ use Rattle.evo_tree.specs.declared.module.Item.{Item}
 use Rattle.evo_tree.specs.declared.module.Item.TheVariants as item
 use Rattle.evo_tree.specs.declared.terminal.Terminal.TheVariants as t
 use Rattle.evo_tree.specs.Terminals.{number_of}
-use Rattle.evo_tree.specs.Pieces.{Piece, is_terminal, mark, identifier}
+use Rattle.evo_tree.specs.Pieces.{Piece, is_terminal, mark, identifier, opens_nesting}
 use Rattle.evo_tree.specs.Expressions.{Rule}
 use Rattle.evo_tree.specs.Declarations.{only_if, Next, Below, IsDeclaration}
 use Rattle.evo_tree.specs.Modules as grammar
-use Rattle.evo_tree.specs.Modules.{Part, imports, items, Spot, leading, further, after_part, is_interface}
+use Rattle.evo_tree.specs.declared.module.ModulePart.{ModulePart}
+use Rattle.evo_tree.specs.declared.module.ModulePart.TheVariants.{Import as imports, Items as items}
+use Rattle.evo_tree.specs.declared.module.PartSpot.{PartSpot}
+use Rattle.evo_tree.specs.declared.module.PartSpot.TheVariants.{Leading as leading, Further as further}
+use Rattle.evo_tree.specs.Modules.{after_part, is_interface}
 use Rattle.evo_parse_expr.specs.Read.{Reader}
+use Rattle.evo_combinators.proofs.Nesting.{nest_by, nest_then}
+use Rattle.evo_combinators.proofs.NestingTries.{nest_made, nest_tries}
+use Rattle.evo_parse_expr.proofs.Nesting.{May, Nests}
+use Rattle.evo_combinators.proofs.NestingRuns.{nest_filter}
 use Rattle.evo_parse_decl.specs.Read.{next, begins_top}
 use Rattle.evo_parse_decl.specs.ReadModules as read
 use Rattle.evo_parse_decl.proofs.Sets.{Set, these, but, In, included, contains, among, Ends, into, included_refl}
@@ -70,11 +78,13 @@ module _ {A : Type 0} (F St : Set) (S : ℕ → Rule A) (p : ℕ → Reader A) (
         let (v, vs, cut, is, s') = no_nothing (Below (S d)) us x s in
         let (u, ws, cut', h) = begins d us x s' in
         subst (λ k. In (these Part_firsts) (first (k ++ rest))) (sym cut') h;
+    nest = λ d n. nest_by (May d) opens_nesting n (Below (S d)) (Or (Below (S d)) Nothing) (on (λ u. u.below) (p d) refuse) (λ us x s. inl s)
+        (nest_filter (May d) opens_nesting n (λ u. u.below) (S d) (p d) (fits.chooses.nest d n));
   }
 
   pub parses_separate : Parses (these (71 ∷ Part_firsts)) St (λ d. Next (S d)) (λ d. next (p d))
   unfolding next
-  parses_separate = parses_alt {H = these Part_firsts} refl refl refl (mark_test t.Semicolon) (λ _. fits) chooses_below
+  parses_separate = parses_alt {H = these Part_firsts} refl refl refl refl (mark_test t.Semicolon) (λ _. fits) chooses_below
 
   pub begins_separate : (d : ℕ) → Begins (Numbered (71 ∷ Part_firsts)) (Next (S d))
   begins_separate d us x (inl (u, q, vs, cut, takes, s)) = (u, vs, cut, into (these (71 ∷ [])) (these (71 ∷ Part_firsts)) refl (Some u) (is_number t.Semicolon u (mark_is t.Semicolon u q takes)))
@@ -84,18 +94,18 @@ module _ {A : Type 0} (F St : Set) (S : ℕ → Rule A) (p : ℕ → Reader A) (
 module _ (B : ℕ → Bool → Rule Block) (b : ℕ → Bool → Reader Block) (blocks : Blocks B b) (S : ℕ → Rule Stmt) (s : ℕ → Reader Stmt) where
   module _ (f : Form) (St : Set) (ended : contains St 100 ≡ true) (wide : included (these (71 ∷ Part_firsts)) St ≡ true)
       (Is : ℕ → Rule (List Item)) (is : ℕ → Reader (List Item)) (items_fit : Parses (these (74 ∷ 100 ∷ Words ++ Kind_words)) St Is is) (items_begin : (d : ℕ) → Begins (Numbered Firsts) (Is d)) where
-    abbrev Imported : Bool → Rule Part
+    abbrev Imported : Bool → Rule ModulePart
     Imported may = Led (only_if may (mark t.Import)) (λ _. Led identifier (λ n. Only (imports n)))
 
-    abbrev A_part : ℕ → Bool → Rule Part
+    abbrev A_part : ℕ → Bool → Rule ModulePart
     A_part d may = Or (Imported may) (Then (Is d) (λ xs. Only (items xs)))
 
-    abbrev a_part : ℕ → Bool → Reader Part
+    abbrev a_part : ℕ → Bool → Reader ModulePart
     a_part d may = alt (only_if may (mark t.Import)) (λ _. one identifier >>= (λ n. pure (imports n))) (is d >>= (λ xs. pure (items xs)))
 
     parses_part : (may : Bool) → Parses (these (4 ∷ 74 ∷ 100 ∷ Words ++ Kind_words)) St (λ d. A_part d may) (λ d. a_part d may)
     parses_part may = record {
-      chooses = chooses_alt_if {H = these (74 ∷ 100 ∷ Words ++ Kind_words)} refl refl refl may (mark_test t.Import) (λ _ _. parses_led {F = Anything} refl ended identifier_test (λ n. parses_pure ended (imports n))) (parses_map items items_fit).chooses;
+      chooses = chooses_alt_if {H = these (74 ∷ 100 ∷ Words ++ Kind_words)} refl refl refl refl may (mark_test t.Import) (λ _ _. parses_led {F = Anything} refl refl ended identifier_test (λ n. parses_pure ended (imports n))) (parses_map items items_fit).chooses;
       some = λ d. let (us, x, r) = (parses_map items items_fit).some d in (us, x, inr r);
     }
 
@@ -110,31 +120,35 @@ module _ (B : ℕ → Bool → Rule Block) (b : ℕ → Bool → Reader Block) (
         (u, vs, cut, into (these Firsts) (these Part_firsts) refl (Some u) h)
 
     -- the part at a spot
-    abbrev Spotted : ℕ → Spot → Rule Part
+    abbrev Spotted : ℕ → PartSpot → Rule ModulePart
     Spotted d leading = A_part d true
     Spotted d (further may) = Next (A_part d may)
 
-    abbrev spotted : ℕ → Spot → Reader Part
+    abbrev spotted : ℕ → PartSpot → Reader ModulePart
     spotted d leading = a_part d true
     spotted d (further may) = next (a_part d may)
 
-    chooses_spot : (at : Spot) → Chooses (these (71 ∷ 4 ∷ 74 ∷ 100 ∷ Words ++ Kind_words)) St (λ d. Spotted d at) (λ d. spotted d at)
+    chooses_spot : (at : PartSpot) → Chooses (these (71 ∷ 4 ∷ 74 ∷ 100 ∷ Words ++ Kind_words)) St (λ d. Spotted d at) (λ d. spotted d at)
     chooses_spot leading = chooses_as refl (included_refl St) ended (parses_part true).chooses
     chooses_spot (further may) = chooses_as refl (included_refl St) ended (parses_separate (these (4 ∷ 74 ∷ 100 ∷ Words ++ Kind_words)) St (λ d. A_part d may) (λ d. a_part d may) (parses_part may) (begins_part may)).chooses
 
-    begins_spot : (d : ℕ) (at : Spot) → Begins (Numbered (71 ∷ Part_firsts)) (Spotted d at)
+    begins_spot : (d : ℕ) (at : PartSpot) → Begins (Numbered (71 ∷ Part_firsts)) (Spotted d at)
     begins_spot d leading us x r = let (u, vs, cut, h) = begins_part true d us x r in (u, vs, cut, into (these Part_firsts) (these (71 ∷ Part_firsts)) refl (Some u) h)
     begins_spot d (further may) us x r = begins_separate (these (4 ∷ 74 ∷ 100 ∷ Words ++ Kind_words)) St (λ d. A_part d may) (λ d. a_part d may) (parses_part may) (begins_part may) d us x r
 
-    full_spot : (d : ℕ) (at : Spot) (x : Part) → Spotted d at [] x → ⊥
+    full_spot : (d : ℕ) (at : PartSpot) (x : ModulePart) → Spotted d at [] x → ⊥
     full_spot d at x r = let (u, vs, cut, h) = begins_spot d at [] x r in cc
 
-    right_parts : (d n : ℕ) (at : Spot) → Right n End (Run (Spotted d) after_part at) (Run (Spotted (suc d)) after_part at) (tries (spotted d) after_part at)
+    right_parts : (d n : ℕ) (at : PartSpot) → Right n End (Run (Spotted d) after_part at) (Run (Spotted (suc d)) after_part at) (tries (spotted d) after_part at)
     right_parts d n at = right_tries End (In St) (Spotted d) (Spotted (suc d)) (spotted d) after_part (λ _. Numbered (71 ∷ Part_firsts)) (λ n at. (chooses_spot at).right d n) (full_spot d) (begins_spot (suc d)) refl
         (λ at u stop h. cc) (λ x stop. subst (In St) (sym stop) ended) (λ at x u h. into (these (71 ∷ Part_firsts)) St wide (Some u) h) n at
 
-    deeper_parts : (d : ℕ) (at : Spot) → Deeper (tries (spotted d) after_part at) (tries (spotted (suc d)) after_part at)
+    deeper_parts : (d : ℕ) (at : PartSpot) → Deeper (tries (spotted d) after_part at) (tries (spotted (suc d)) after_part at)
     deeper_parts d at = deeper_tries (spotted d) (spotted (suc d)) after_part (λ at. (chooses_spot at).deeper d) at
+
+    nest_parts : (d n : ℕ) (at : PartSpot) → Nests d n (Run (Spotted d) after_part at) (tries (spotted d) after_part at)
+    nest_parts d n at = nest_tries (May d) opens_nesting (In St) (Spotted d) (Spotted (suc d)) (spotted d) after_part (λ _. Numbered (71 ∷ Part_firsts))
+        (λ n at. (chooses_spot at).right d n) (full_spot d) (begins_spot (suc d)) (λ n at. (chooses_spot at).nest d n) n at
 
   -- ---- libraries and interfaces
 
@@ -159,15 +173,19 @@ module _ (B : ℕ → Bool → Rule Block) (b : ℕ → Bool → Reader Block) (
     unfolding read.parts read.part_at read.part_of read.items_of
     deeper_library d = deeper_parts library Anything refl refl (λ d. grammar.Declared B S library d) (λ d. read.declared b s library d) (parses_declared library) (begins_declared library) d leading
 
+    pub nest_library : (d m : ℕ) → Nests d m (grammar.Parts B S library d) (read.parts b s library d)
+    unfolding read.parts read.part_at read.part_of read.items_of
+    nest_library d m = nest_parts library Anything refl refl (λ d. grammar.Declared B S library d) (λ d. read.declared b s library d) (parses_declared library) (begins_declared library) d m leading
+
     -- the reader of a library reads the grammar's rule at each nesting
     pub library_grammar : Grammar_of End (λ d. grammar.Parts B S library d) (λ d. read.parts b s library d)
     library_grammar = record { right = right_library; deeper = deeper_library }
 
   parses_import : Parses (these (4 ∷ [])) Anything (λ _. grammar.Import B S) (λ _. read.import_of b s)
   unfolding read.import_of
-  parses_import = parses_led refl refl (mark_test t.Import) (λ _. parses_led {F = Anything} refl refl identifier_test (λ n. parses_pure refl (imports n)))
+  parses_import = parses_led refl refl refl (mark_test t.Import) (λ _. parses_led {F = Anything} refl refl refl identifier_test (λ n. parses_pure refl (imports n)))
 
-  abbrev Behind_import : ℕ → Part → Rule (List Part)
+  abbrev Behind_import : ℕ → ModulePart → Rule (List ModulePart)
   Behind_import d x = Then (Run (grammar.Part_at B S form.Interface d) after_part (further false)) (λ xs. Only (x ∷ xs))
 
   right_interface : (d m : ℕ) → Right m End (grammar.Parts B S form.Interface d) (grammar.Parts B S form.Interface (suc d)) (read.parts b s form.Interface d)
@@ -181,6 +199,12 @@ module _ (B : ℕ → Bool → Rule Block) (b : ℕ → Bool → Reader Block) (
   unfolding read.parts read.part_at read.part_of read.items_of
   deeper_interface d = deeper_then (read.import_of b s) (read.import_of b s) _ _ (same_refl (read.import_of b s))
       (λ x. deeper_then _ _ _ _ (deeper_parts form.Interface Ends refl refl (λ d. grammar.Declared B S form.Interface d) (λ d. read.declared b s form.Interface d) (parses_declared form.Interface) (begins_declared form.Interface) d (further false)) (λ xs. same_refl (pure (x ∷ xs))))
+
+  pub nest_interface : (d m : ℕ) → Nests d m (grammar.Parts B S form.Interface d) (read.parts b s form.Interface d)
+  unfolding read.parts read.part_at read.part_of read.items_of
+  nest_interface d m = nest_then (May d) opens_nesting m (In Anything) (grammar.Import B S) (grammar.Import B S) (Behind_import d) (read.import_of b s) _ (parses_import.chooses.right 0 m) (parses_import.chooses.nest d m)
+      (λ x. nest_made (May d) opens_nesting m _ _ (λ xs. x ∷ xs) (nest_parts form.Interface Ends refl refl (λ d. grammar.Declared B S form.Interface d) (λ d. read.declared b s form.Interface d) (parses_declared form.Interface) (begins_declared form.Interface) d m (further false)))
+      (λ held x. ([], x ∷ [], ([], [], [], refl, refl, (refl, refl))))
 
   -- and so does that of an interface
   pub interface_grammar : Grammar_of End (λ d. grammar.Parts B S form.Interface d) (λ d. read.parts b s form.Interface d)

@@ -27,6 +27,7 @@ use Rattle.evo_tree.specs.Declarations as grammar
 use Rattle.evo_tree.specs.Declarations.{is_protocol, is_enum, may_stand, may_be_stored, has_body, scope_of, one_kind, nominal_word, Declaration_of, Within}
 use Rattle.evo_parse_decl.specs.Read as read
 use Rattle.evo_parse_expr.specs.Read.{Reader}
+use Rattle.evo_parse_expr.proofs.Nesting.{Nests}
 use Rattle.evo_parse_decl.specs.Read.{begins_kind, begins_member, begins_top, begins_top_kind, begins_declaration}
 use Rattle.evo_parse_decl.proofs.Sets.{Set, these, but, In, included, contains, among, Ends, into}
 use Rattle.evo_parse_decl.proofs.Parses.{Test, Chooses, Parses, parses_pure, parses_as, parses_before, parses_then, parses_map, parses_led, parses_opens, chooses_alt, parses_alt, chooses_nothing}
@@ -93,17 +94,17 @@ module _ (B : ℕ → Bool → Rule Block) (b : ℕ → Bool → Reader Block) (
   pub parses_members : (interface : Bool) (s : Scope) → Parses (these (68 ∷ [])) Anything (λ d. grammar.Members B interface d s) (λ d. read.members b interface d s)
   unfolding read.members
   parses_members interface s =
-      let close = λ (ms : List Decl). parses_led {F = these (69 ∷ [])} {St = Anything} refl refl (mark_test t.CloseBrace) (λ _. parses_pure refl ms) in
+      let close = λ (ms : List Decl). parses_led {F = these (69 ∷ [])} {St = Anything} refl refl refl (mark_test t.CloseBrace) (λ _. parses_pure refl ms) in
       let inside = parses_then refl (parses_are_members interface s) close in
       let none : Some_of (grammar.AreMembers B interface s 0) = ([], [], to_map _ (λ ds. flat_map (λ d. d) ds) [] [] (inr (refl, refl))) in
-      parses_opens {H = these []} refl refl refl (mark_test t.OpenBrace) (λ _. some_then (grammar.AreMembers B interface s 0) _ none (λ ms. (close ms).some 0)) (λ _. inside) (chooses_nothing refl)
+      parses_opens {H = these []} refl refl refl refl (mark_test t.OpenBrace) (λ _. some_then (grammar.AreMembers B interface s 0) _ none (λ ms. (close ms).some 0)) (λ _. inside) (chooses_nothing refl)
 
   -- ---- the top level
 
   module _ (interface : Bool) where
     parses_nominal : (attrs : List Attr) (w : Place × NominalKind) → Parses (these (0 ∷ [])) Anything (λ d. grammar.Rest_of_nominal B interface d attrs w) (λ d. read.rest_of_nominal b interface d attrs w)
     unfolding read.rest_of_nominal
-    parses_nominal attrs w = parses_led refl refl identifier_test (λ n. parses_then refl parses_inherited (λ is. parses_map (λ ms. one_kind w.0 (k.Nominal w.1 n is ms)) (parses_members interface (scope_of w.1 attrs))))
+    parses_nominal attrs w = parses_led refl refl refl identifier_test (λ n. parses_then refl parses_inherited (λ is. parses_map (λ ms. one_kind w.0 (k.Nominal w.1 n is ms)) (parses_members interface (scope_of w.1 attrs))))
 
     parses_extension : (p : Place) → Parses (these (0 ∷ 26 ∷ [])) Anything (λ d. grammar.Rest_of_extension B interface d p) (λ d. read.rest_of_extension b interface d p)
     unfolding read.rest_of_extension
@@ -113,9 +114,9 @@ module _ (B : ℕ → Bool → Rule Block) (b : ℕ → Bool → Reader Block) (
         (function : (attrs : List Attr) (p : Place) → Parses (these (0 ∷ [])) St (λ d. grammar.Rest_of_function B interface scope.TopLevel d attrs p) (λ d. read.rest_of_function b interface scope.TopLevel d attrs p)) where
       parses_top_kind : (attrs : List Attr) → Parses (these Kind_words) St (λ d. grammar.Top_kind B interface d attrs) (λ d. read.top_kind b interface d attrs)
       unfolding read.top_kind
-      parses_top_kind attrs = parses_alt {H = these (5 ∷ 6 ∷ 7 ∷ 8 ∷ 9 ∷ [])} refl refl refl (mark_test t.Func) (function attrs)
-          (chooses_alt {H = these (9 ∷ [])} refl refl refl nominal_test (λ w. parses_before any ended (parses_nominal attrs w))
-          (chooses_alt {H = these []} refl refl refl (mark_test t.Extension) (λ p. parses_before any ended (parses_extension p)) (chooses_nothing ended)))
+      parses_top_kind attrs = parses_alt {H = these (5 ∷ 6 ∷ 7 ∷ 8 ∷ 9 ∷ [])} refl refl refl refl (mark_test t.Func) (function attrs)
+          (chooses_alt {H = these (9 ∷ [])} refl refl refl refl nominal_test (λ w. parses_before any ended (parses_nominal attrs w))
+          (chooses_alt {H = these []} refl refl refl refl (mark_test t.Extension) (λ p. parses_before any ended (parses_extension p)) (chooses_nothing ended)))
 
       begins_of_top : (d : ℕ) → Begins (λ u. begins_top_kind u ≡ true) (grammar.Top_kind B interface d [])
       begins_of_top d us x (inl (u, p, vs, cut, takes, s)) = (u, vs, cut, or_left (is_terminal t.Func u) _ (mark_is t.Func u p takes))
@@ -179,7 +180,7 @@ module _ (B : ℕ → Bool → Rule Block) (b : ℕ → Bool → Reader Block) (
   -- in a library or a client each function has a body
   function_with_body : (attrs : List Attr) (p : Place) → Parses (these (0 ∷ [])) Anything (λ d. grammar.Rest_of_function B false scope.TopLevel d attrs p) (λ d. read.rest_of_function b false scope.TopLevel d attrs p)
   unfolding read.rest_of_function read.body
-  function_with_body attrs p = parses_led refl refl identifier_test (λ n. parses_then refl (parses_header scope.TopLevel true) (λ h. parses_map (λ x. one_kind p (k.Function n h x)) (parses_map (λ x. Some x) (parses_block B b blocks false))))
+  function_with_body attrs p = parses_led refl refl refl identifier_test (λ n. parses_then refl (parses_header scope.TopLevel true) (λ h. parses_map (λ x. one_kind p (k.Function n h x)) (parses_map (λ x. Some x) (parses_block B b blocks false))))
 
   -- what may follow a declaration at the top level: anything behind a brace
   abbrev pub Ends_of : Bool → Set
@@ -205,3 +206,11 @@ module _ (B : ℕ → Bool → Rule Block) (b : ℕ → Bool → Reader Block) (
   -- the reader of declarations reads the grammar's rule at each nesting
   pub declarations_grammar : (interface : Bool) → Grammar_of (In (Ends_of interface)) (λ d. grammar.IsDeclaration B interface d) (λ d. read.top_declaration b interface d)
   declarations_grammar interface = record { right = (parses_top_declaration interface).chooses.right; deeper = (parses_top_declaration interface).chooses.deeper }
+
+  -- with each token that opens a nesting a declaration goes on, and no other token opens one too many
+  pub nest_top : (interface : Bool) (d n : ℕ) → Nests d n (grammar.IsDeclaration B interface d) (read.top_declaration b interface d)
+  nest_top interface = (parses_top_declaration interface).chooses.nest
+
+  -- and so it is with a declaration in braces
+  pub nest_in_braces : (interface : Bool) (s : Scope) (d n : ℕ) → Nests d n (Member interface s d) (member interface s d)
+  nest_in_braces interface s = (enters_member interface s).fits.chooses.nest

@@ -12,7 +12,11 @@ use Rattle.evo_tree.specs.declared.module.Item.TheVariants as item
 use Rattle.evo_tree.specs.declared.terminal.Terminal.TheVariants as t
 use Rattle.evo_tree.specs.Pieces.{mark, identifier}
 use Rattle.evo_tree.specs.Declarations.{only_if}
-use Rattle.evo_tree.specs.Modules.{Part, imports, items, Spot, leading, further, after_part, is_interface}
+use Rattle.evo_tree.specs.declared.module.ModulePart.{ModulePart}
+use Rattle.evo_tree.specs.declared.module.ModulePart.TheVariants.{Import as imports, Items as items}
+use Rattle.evo_tree.specs.declared.module.PartSpot.{PartSpot}
+use Rattle.evo_tree.specs.declared.module.PartSpot.TheVariants.{Leading as leading, Further as further}
+use Rattle.evo_tree.specs.Modules.{after_part, is_interface}
 use Rattle.evo_parse_expr.specs.Read.{Reader}
 use Rattle.evo_parse_decl.specs.Read.{next, top_declaration, begins_top}
 
@@ -26,20 +30,20 @@ module _ (b : ℕ → Bool → Reader Block) (s : ℕ → Reader Stmt) where
   items_of (form.Library n) d = declared (form.Library n) d
   items_of form.Interface d = declared form.Interface d
 
-  unfoldable pub import_of : Reader Part
+  unfoldable pub import_of : Reader ModulePart
   import_of = do
     _ ← one (mark t.Import)
     n ← one identifier
     pure (imports n)
 
-  unfoldable pub part_of : Form → ℕ → Bool → Reader Part
+  unfoldable pub part_of : Form → ℕ → Bool → Reader ModulePart
   part_of f d may = alt (only_if may (mark t.Import)) (λ _. one identifier >>= (λ n. pure (imports n))) (items_of f d >>= (λ is. pure (items is)))
 
-  unfoldable pub part_at : Form → ℕ → Spot → Reader Part
+  unfoldable pub part_at : Form → ℕ → PartSpot → Reader ModulePart
   part_at f d leading = part_of f d true
   part_at f d (further may) = next (part_of f d may)
 
-  unfoldable pub parts : Form → ℕ → Reader (List Part)
+  unfoldable pub parts : Form → ℕ → Reader (List ModulePart)
   parts form.Interface d = do
     x ← import_of
     xs ← tries (part_at form.Interface d) after_part (further false)

@@ -4,11 +4,10 @@ ghost use Rattle.std.specs.Prelude.{◌≡◌, ◌∷◌, [], ◌++◌, ℕ, Lis
 ghost use Rattle.evo_tree.specs.Declarations as grammar;
 
 use crate::attribute::{ordered_attributes, ordered_modifiers, with_access};
-use crate::gathered::Gathered;
 use crate::header::is_protocol;
 use crate::kind::Kinds;
 use crate::words::has_modifier;
-use evo_base::Place;
+use evo_base::{List, Place};
 use evo_tree::{Attr, Decl, DeclKind, Modifier, ModifierKind, Scope};
 use sqlite_items::Items;
 use std::alloc::{AllocError, Global};
@@ -56,24 +55,24 @@ pub(crate) fn all_declared(
     attrs: &[Attr],
     modifiers: &[Modifier],
     kinds: Kinds,
-) -> Result<Items<Decl>, AllocError>
+) -> Result<List<Decl>, AllocError>
     ensures { IfOk result (λ ds. ds ≡ map (grammar.declaration scope attrs.now modifiers.now kinds.0) kinds.1) }
 {
     let (place, kinds) = kinds;
-    let mut found = Items::new(alloc);
+    let mut found = Vec::new(alloc);
     for kind in kinds.into_vec() {
         found.push(declared(alloc, scope, attrs, modifiers, place, kind)?)?;
     }
-    Ok(found)
+    Ok(List::from_vec(found))
 }
 
 /// The declarations of several places, one after the other.
-pub(crate) fn joined(alloc: Global, parts: Gathered<Items<Decl>>) -> Result<Items<Decl>, AllocError>
+pub(crate) fn joined(alloc: Global, parts: List<List<Decl>>) -> Result<Items<Decl>, AllocError>
     ensures { IfOk result (λ ds. ds ≡ flat_map (λ d. d) parts) }
 {
-    let mut found = Items::new(alloc);
+    let mut found = Vec::new(alloc);
     for part in parts.into_vec() {
-        found.append(part)?;
+        found.append(&mut part.into_vec())?;
     }
-    Ok(found)
+    Ok(Items::from_vec(found))
 }

@@ -6,7 +6,6 @@ ghost use Rattle.evo_tree.specs.Declarations as grammar;
 ghost use Rattle.evo_parse_decl.specs.Read as spec;
 ghost use Rattle.evo_parse_decl.specs.Closed.{block_at};
 
-use crate::gathered::Gathered;
 use crate::header::{conforming, header, is_protocol, too_deep};
 use crate::part::{Part, further, separated};
 use crate::property::accessors;
@@ -22,7 +21,7 @@ use evo_tree::{
 use std::alloc::{AllocError, Global};
 
 /// Kinds of declarations, at the word that begins them.
-pub(crate) type Kinds = (Place, Gathered<DeclKind>);
+pub(crate) type Kinds = (Place, List<DeclKind>);
 
 /// One kind of declaration.
 pub(crate) fn one_kind(alloc: Global, place: Place, kind: DeclKind) -> Result<Kinds, AllocError>
@@ -30,7 +29,7 @@ pub(crate) fn one_kind(alloc: Global, place: Place, kind: DeclKind) -> Result<Ki
 {
     let mut kinds = Vec::new(alloc);
     kinds.push(kind)?;
-    Ok((place, Gathered::new(kinds)))
+    Ok((place, List::from_vec(kinds)))
 }
 
 // A payload behind its first name, which is a label or begins its type.
@@ -53,10 +52,7 @@ fn rest_of_payload(
     let names = further(alloc, text, tokens, 0, Terminal::Dot)?;
     Ok(Payload {
         label: None,
-        type_name: TypeName {
-            place,
-            names: List::from_vec(names.into_vec()),
-        },
+        type_name: TypeName { place, names },
     })
 }
 

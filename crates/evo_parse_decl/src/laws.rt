@@ -5,7 +5,8 @@ ghost use Rattle.evo_tree.specs.declared.declaration.Decl.{Decl};
 ghost use Rattle.evo_tree.specs.Pieces.{Piece};
 ghost use Rattle.evo_tree.specs.Declarations.{IsDeclaration};
 ghost use Rattle.evo_tree.specs.declared.module.Form.{Form};
-ghost use Rattle.evo_tree.specs.Modules.{Part, Parts};
+ghost use Rattle.evo_tree.specs.declared.module.ModulePart.{ModulePart};
+ghost use Rattle.evo_tree.specs.Modules.{Parts};
 ghost use Rattle.evo_parse_decl.specs.Closed.{Block_at, Stmt_at};
 
 /// Tokens spell at most one declaration at the top level, whatever the nesting.
@@ -15,5 +16,5 @@ pub fn one_declaration()
 
 /// Tokens spell the parts of at most one module of a form, whatever the nesting.
 pub fn one_module()
-    ensures { (f : Form) (d e : ℕ) (us : List Piece) (a b : List Part) → Parts Block_at Stmt_at f d us a → Parts Block_at Stmt_at f e us b → a ≡ b }
+    ensures { (f : Form) (d e : ℕ) (us : List Piece) (a b : List ModulePart) → Parts Block_at Stmt_at f d us a → Parts Block_at Stmt_at f e us b → a ≡ b }
 {}

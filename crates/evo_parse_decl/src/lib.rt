@@ -4,7 +4,6 @@
 mod attribute;
 mod block;
 mod decl;
-mod gathered;
 mod header;
 mod kind;
 mod laws;
@@ -15,4 +14,6 @@ mod top_level;
 mod words;
 
 pub use laws::{one_declaration, one_module};
+pub use member::starts_below;
 pub use top_level::{begins_declaration, declaration};
+pub use words::mark_if;

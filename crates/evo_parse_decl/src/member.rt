@@ -11,9 +11,9 @@ ghost use Rattle.evo_parse_decl.specs.Closed.{block_at, member_at};
 
 use crate::attribute::{attributes, is_modifier, modifiers};
 use crate::decl::{all_declared, joined};
-use crate::gathered::Gathered;
 use crate::header::{is_protocol, too_deep};
 use crate::kind::{is_enum, may_be_stored, may_stand, member_kind};
+use evo_base::List;
 use evo_combinators::ReadError;
 use evo_parse_expr::{Cursor, Lexeme};
 use evo_tree::{Decl, Scope, Terminal};
@@ -28,7 +28,7 @@ fn member(
     depth: u32,
     interface: bool,
     scope: Scope,
-) -> Result<Items<Decl>, ReadError>
+) -> Result<List<Decl>, ReadError>
     ensures { Reads (member_at interface scope depth tokens.old) result tokens.new }
 {
     let attrs = attributes(alloc, tokens, depth)?;
@@ -83,7 +83,7 @@ fn starts_next(tokens: &Cursor<'_>, interface: bool, scope: Scope) -> bool
 
 /// Whether the first token stands on a later line than the one before it.
 #[tactic(auto, unfolding(evo_combinators::specs::Guard::starts))]
-pub(crate) fn starts_below(tokens: &Cursor<'_>) -> bool
+pub fn starts_below(tokens: &Cursor<'_>) -> bool
     ensures { result ≡ starts (λ u. u.below) tokens.now }
 {
     match tokens.next() {
@@ -99,7 +99,7 @@ fn next_member(
     depth: u32,
     interface: bool,
     scope: Scope,
-) -> Result<Items<Decl>, ReadError>
+) -> Result<List<Decl>, ReadError>
     ensures { Reads (spec.next (member_at interface scope depth) tokens.old) result tokens.new }
 {
     if let Some(_) = tokens.mark(Terminal::Semicolon) {
@@ -114,23 +114,23 @@ fn next_member(
 // A member, and those behind it.
 fn further_members(
     alloc: Global,
-    first: Items<Decl>,
+    first: List<Decl>,
     tokens: &mut Cursor<'_>,
     depth: u32,
     interface: bool,
     scope: Scope,
-) -> Result<Gathered<Items<Decl>>, ReadError>
+) -> Result<List<List<Decl>>, ReadError>
     ensures { Reads (after first (run (λ _. spec.goes_on (spec.begins_member interface scope)) (λ _. spec.next (member_at interface scope depth)) (λ u _. u) true) tokens.old) result tokens.new }
 {
     let mut found = Vec::new(alloc);
     found.push(first)?;
     for _turn in 0..tokens.left() {
         if !starts_next(tokens, interface, scope) {
-            return Ok(Gathered::new(found));
+            return Ok(List::from_vec(found));
         }
         found.push(next_member(alloc, tokens, depth, interface, scope)?)?;
     }
-    Ok(Gathered::new(found))
+    Ok(List::from_vec(found))
 }
 
 #[tactic(auto, unfolding(crate::specs::Read::lines))]
@@ -140,11 +140,11 @@ fn lines(
     depth: u32,
     interface: bool,
     scope: Scope,
-) -> Result<Gathered<Items<Decl>>, ReadError>
+) -> Result<List<List<Decl>>, ReadError>
     ensures { Reads (spec.lines (spec.begins_member interface scope) (member_at interface scope depth) tokens.old) result tokens.new }
 {
     if !starts_member(tokens, interface, scope) {
-        return Ok(Gathered::new(Vec::new(alloc)));
+        return Ok(List::from_vec(Vec::new(alloc)));
     }
     let first = member(alloc, tokens, depth, interface, scope)?;
     further_members(alloc, first, tokens, depth, interface, scope)

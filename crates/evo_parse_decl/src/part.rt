@@ -7,7 +7,6 @@ ghost use Rattle.evo_tree.specs.Pieces.{mark};
 ghost use Rattle.evo_parse_expr.specs.Read.{Reader, after, type_of};
 ghost use Rattle.evo_parse_decl.specs.Read as spec;
 
-use crate::gathered::Gathered;
 use evo_base::{List, Name};
 use evo_combinators::ReadError;
 use evo_parse_expr::{Cursor, type_name};
@@ -45,18 +44,18 @@ pub(crate) fn further<T: Part>(
     tokens: &mut Cursor<'_>,
     depth: u32,
     terminal: Terminal,
-) -> Result<Gathered<T>, ReadError>
+) -> Result<List<T>, ReadError>
     ensures { Reads (after first (many (mark terminal) (λ _. T.reader depth)) tokens.old) result tokens.new }
 {
     let mut found = Vec::new(alloc);
     found.push(first)?;
     for _turn in 0..tokens.left() {
         let Some(_) = tokens.mark(terminal) else {
-            return Ok(Gathered::new(found));
+            return Ok(List::from_vec(found));
         };
         found.push(T::part(alloc, tokens, depth)?)?;
     }
-    Ok(Gathered::new(found))
+    Ok(List::from_vec(found))
 }
 
 /// One part, and more of them behind a mark.
@@ -70,6 +69,5 @@ pub(crate) fn separated<T: Part>(
     ensures { Reads (spec.separated terminal (T.reader depth) tokens.old) result tokens.new }
 {
     let first = T::part(alloc, tokens, depth)?;
-    let found = further(alloc, first, tokens, depth, terminal)?;
-    Ok(List::from_vec(found.into_vec()))
+    further(alloc, first, tokens, depth, terminal)
 }

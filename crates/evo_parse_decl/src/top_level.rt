@@ -13,11 +13,10 @@ use crate::header::inherited;
 use crate::kind::{Kinds, one_kind, rest_of_function};
 use crate::member::members;
 use crate::words::{has_attribute, is_nominal, nominal_word};
-use evo_base::Place;
+use evo_base::{List, Place};
 use evo_combinators::ReadError;
 use evo_parse_expr::{Cursor, Lexeme, type_name};
 use evo_tree::{Attr, AttrKind, Decl, DeclKind, NominalKind, Scope, Terminal};
-use sqlite_items::Items;
 use std::alloc::Global;
 
 // What the members of a type stand in.
@@ -117,7 +116,7 @@ pub fn declaration(
     tokens: &mut Cursor<'_>,
     depth: u32,
     interface: bool,
-) -> Result<Items<Decl>, ReadError>
+) -> Result<List<Decl>, ReadError>
     ensures { Reads (spec.top_declaration block_at interface depth tokens.old) result tokens.new }
 {
     let attrs = attributes(alloc, tokens, depth)?;

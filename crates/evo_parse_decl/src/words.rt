@@ -18,7 +18,7 @@ use evo_tree::{
 
 /// Takes this terminal, where it may stand.
 #[tactic(auto, unfolding(evo_combinators::specs::Reader::lead))]
-pub(crate) fn mark_if<'a>(tokens: &mut Cursor<'a>, may: bool, terminal: Terminal) -> Option<Place>
+pub fn mark_if<'a>(tokens: &mut Cursor<'a>, may: bool, terminal: Terminal) -> Option<Place>
     ensures { Eats (lead (grammar.only_if may (pieces.mark terminal)) tokens.old) result tokens.old tokens.new }
 {
     let (first, rest) = tokens.next()?;

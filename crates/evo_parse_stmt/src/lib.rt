@@ -9,6 +9,7 @@ mod matching;
 mod sequence;
 mod single;
 
+pub use fault::is_refusal;
 pub use laws::{one_block, one_statement};
 pub use matching::pattern;
 pub use single::{block, statement};

@@ -9,6 +9,7 @@
 -- An interface begins with two exact lines, which are comments to the grammar. They say its name and its release.
 use Rattle.std.specs.Prelude.{◌≡◌, ◌⊎◌, ℕ, ◌^◌, ◌<◌, List, [], ◌∷◌, ◌++◌, map, Option, Some, None, Bool, true, false, codes}
 use Rattle.std.specs.Fmt.{decimal}
+use Rattle.std.specs.Str.{IsUtf8}
 use Rattle.evo_base.specs.declared.token.Token.{Token}
 use Rattle.evo_combinators.specs.Rule.{Only, Led, Or, Then}
 use Rattle.evo_combinators.specs.Guard.{Run}
@@ -23,37 +24,31 @@ use Rattle.evo_tree.specs.declared.module.Form.TheVariants as form
 use Rattle.evo_tree.specs.declared.module.Item.{Item}
 use Rattle.evo_tree.specs.declared.module.Item.TheVariants as item
 use Rattle.evo_tree.specs.declared.module.Module.{Module}
+use Rattle.evo_tree.specs.declared.module.ModulePart.{ModulePart}
+use Rattle.evo_tree.specs.declared.module.ModulePart.TheVariants as part
+use Rattle.evo_tree.specs.declared.module.PartSpot.{PartSpot}
+use Rattle.evo_tree.specs.declared.module.PartSpot.TheVariants as spot
 use Rattle.evo_tree.specs.declared.terminal.Terminal.TheVariants as t
 use Rattle.evo_tree.specs.Pieces.{pieces, mark, identifier}
 use Rattle.evo_tree.specs.Expressions.{Rule}
 use Rattle.evo_tree.specs.Statements.{IsStmt, IsBlock, Later}
 use Rattle.evo_tree.specs.Declarations.{only_if, Next, IsDeclaration}
 
--- an import, or what a declaration or a statement makes
-pub data Part : Type 0 where
-  imports : Identifier → Part
-  items : List Item → Part
-
-abbrev pub imports_of : List Part → List Identifier
+abbrev pub imports_of : List ModulePart → List Identifier
 imports_of [] = []
-imports_of (imports n ∷ parts) = n ∷ imports_of parts
-imports_of (items is ∷ parts) = imports_of parts
+imports_of (part.Import n ∷ parts) = n ∷ imports_of parts
+imports_of (part.Items is ∷ parts) = imports_of parts
 
-abbrev pub items_of : List Part → List Item
+abbrev pub items_of : List ModulePart → List Item
 items_of [] = []
-items_of (imports n ∷ parts) = items_of parts
-items_of (items is ∷ parts) = is ++ items_of parts
-
--- where a part stands: it is the first one, or a further one, which may be an import or not
-pub data Spot : Type 0 where
-  leading : Spot
-  further : Bool → Spot
+items_of (part.Import n ∷ parts) = items_of parts
+items_of (part.Items is ∷ parts) = is ++ items_of parts
 
 -- imports may stand behind imports alone
-abbrev pub after_part : Spot → Part → Spot
-after_part s (items is) = further false
-after_part leading (imports n) = further true
-after_part (further may) (imports n) = further may
+abbrev pub after_part : PartSpot → ModulePart → PartSpot
+after_part s (part.Items is) = spot.Further false
+after_part spot.Leading (part.Import n) = spot.Further true
+after_part (spot.Further may) (part.Import n) = spot.Further may
 
 abbrev pub is_interface : Form → Bool
 is_interface form.Interface = true
@@ -72,22 +67,22 @@ module _ (B : ℕ → Bool → Rule Block) (S : ℕ → Rule Stmt) where
   Items form.Interface d = Declared form.Interface d
 
   -- import
-  abbrev pub Import : Rule Part
-  Import = Led (mark t.Import) (λ _. Led identifier (λ n. Only (imports n)))
+  abbrev pub Import : Rule ModulePart
+  Import = Led (mark t.Import) (λ _. Led identifier (λ n. Only (part.Import n)))
 
   -- an import, where it may stand, or items
-  abbrev pub Part_of : Form → ℕ → Bool → Rule Part
-  Part_of f d may = Or (Led (only_if may (mark t.Import)) (λ _. Led identifier (λ n. Only (imports n)))) (Then (Items f d) (λ is. Only (items is)))
+  abbrev pub Part_of : Form → ℕ → Bool → Rule ModulePart
+  Part_of f d may = Or (Led (only_if may (mark t.Import)) (λ _. Led identifier (λ n. Only (part.Import n)))) (Then (Items f d) (λ is. Only (part.Items is)))
 
   -- the first part, or a further one behind a separator, and whether it may be an import
-  abbrev pub Part_at : Form → ℕ → Spot → Rule Part
-  Part_at f d leading = Part_of f d true
-  Part_at f d (further may) = Next (Part_of f d may)
+  abbrev pub Part_at : Form → ℕ → PartSpot → Rule ModulePart
+  Part_at f d spot.Leading = Part_of f d true
+  Part_at f d (spot.Further may) = Next (Part_of f d may)
 
-  abbrev pub Parts : Form → ℕ → Rule (List Part)
-  Parts form.Interface d = Then Import (λ x. Then (Run (Part_at form.Interface d) after_part (further false)) (λ xs. Only (x ∷ xs)))
-  Parts form.Client d = Run (Part_at form.Client d) after_part leading
-  Parts (form.Library n) d = Run (Part_at (form.Library n) d) after_part leading
+  abbrev pub Parts : Form → ℕ → Rule (List ModulePart)
+  Parts form.Interface d = Then Import (λ x. Then (Run (Part_at form.Interface d) after_part (spot.Further false)) (λ xs. Only (x ∷ xs)))
+  Parts form.Client d = Run (Part_at form.Client d) after_part spot.Leading
+  Parts (form.Library n) d = Run (Part_at (form.Library n) d) after_part spot.Leading
 
 -- ---- texts
 
@@ -97,6 +92,7 @@ IsLineEnd end = (end ≡ 10 ∷ []) ⊎ (end ≡ 13 ∷ 10 ∷ [])
 
 -- the two lines with which an interface of this name and release begins
 pub record IsHeading (text name : List ℕ) (release : Release) : Type 0 where
+  pub utf8 : IsUtf8 name
   pub name_is : IsModule name
   pub major : release.major < 2 ^ 32
   pub minor : release.minor < 2 ^ 32
@@ -123,7 +119,7 @@ nesting = 64
 pub record Spells (text : List ℕ) (f : Form) (m : Module) : Type 0 where
   pub tokens : List Token
   pub cut : Cut text tokens
-  pub parts : List Part
+  pub parts : List ModulePart
   pub spelled : Parts (λ d inits. IsBlock inits d) (λ d. Later (IsStmt false d)) f nesting (pieces text tokens) parts
   pub form_is : m.form ≡ f
   pub named : IsNamed text f m.name m.release

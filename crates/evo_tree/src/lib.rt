@@ -25,7 +25,7 @@ pub use declaration::{
     ModifierKind, NominalKind, Parameter, ParameterLabel, Payload, Release, Requirement,
 };
 pub use expression::{Argument, Expr, InfixOperator, Member, Operand, PrefixOperator};
-pub use module::{Form, Item, Module, SourceFault};
+pub use module::{Form, Item, Module, ModulePart, PartSpot, SourceFault};
 pub use name::{Identifier, TypeName};
 pub use same_module::same;
 pub use scope::Scope;

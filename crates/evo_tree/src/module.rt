@@ -23,6 +23,23 @@ pub enum Item {
     Stmt(Stmt),
 }
 
+/// What stands between two separators at the top level of a text.
+#[derive(Drop)]
+pub enum ModulePart {
+    Import(Identifier),
+    /// A statement, or what a declaration makes: one with several cases makes several.
+    Items(List<Item>),
+}
+
+/// Where a part stands.
+#[derive(Clone, Copy, PartialEq, Eq)]
+pub enum PartSpot {
+    /// It is the first one, which may be an import.
+    Leading,
+    /// It stands behind others, and may be an import or not.
+    Further(bool),
+}
+
 /// A module. A client's name is `main`.
 #[derive(Drop)]
 pub struct Module {
