@@ -1,6 +1,3 @@
-pub mod WordLemmas
-pub mod Tests
-pub mod Lengths
-pub mod Right
-pub mod Spelled
-pub mod FactLemmas
+pub mod Answers
+pub mod Loops
+pub mod Modules

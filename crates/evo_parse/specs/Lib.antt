@@ -1,5 +1,2 @@
-pub mod Words
-pub mod Pieces
-pub mod Grammar
-pub mod Read
-pub mod Facts
+pub mod Contract
+pub mod Text
