@@ -23,7 +23,7 @@ GivesAs-weaker means more old new before now takes failed (Err halt.Memory) so g
 -- a refusal writes nothing to `out`
 pub nothing_out : (why : Refusal) (name : List ℕ) (old : Option (List ℕ)) → Appends old old (refused_answer why name).out
 nothing_out refusal.TooLong name old = Appends-none old
-nothing_out refusal.NotAccepted name old = Appends-none old
+nothing_out (refusal.Source fault) name old = Appends-none old
 nothing_out refusal.InterfaceTooLong name old = Appends-none old
 
 -- writing what is left, after a piece that was written

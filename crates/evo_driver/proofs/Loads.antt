@@ -19,12 +19,12 @@ use Rattle.evo_driver.specs.Loading.{LacksFile, LacksNames, Stops, IsWrongText}
 -- a text that is too long is no library and no client
 pub no_library : (held : Option (List ℕ)) (library : List ℕ) (why : Refusal) → IsWrongText held why → Holds held (IsWrongLibrary library why)
 no_library held library refusal.TooLong h = h
-no_library held library refusal.NotAccepted h = absurd h
+no_library held library (refusal.Source fault) h = absurd h
 no_library held library refusal.InterfaceTooLong h = absurd h
 
 pub no_client : (held : Option (List ℕ)) (interface : Interface) (why : Refusal) → IsWrongText held why → Holds held (IsWrongClient interface why)
 no_client held interface refusal.TooLong h = h
-no_client held interface refusal.NotAccepted h = absurd h
+no_client held interface (refusal.Source fault) h = absurd h
 no_client held interface refusal.InterfaceTooLong h = absurd h
 
 -- why a text is not had is why what it is to be is not had

@@ -15,7 +15,7 @@ run_written out stuck a h w = h
 answers_written : (words : List (List ℕ)) (held : List ℕ → Option (List ℕ)) (a : Answer) → Answers words held a → a.status ≡ status.NotWritten → ⊥
 answers_written words held a (no_command none) w = absurd cc
 answers_written words held a (refused job at refusal.TooLong is why) w = absurd cc
-answers_written words held a (refused job at refusal.NotAccepted is why) w = absurd cc
+answers_written words held a (refused job at (refusal.Source fault) is why) w = absurd cc
 answers_written words held a (refused job at refusal.InterfaceTooLong is why) w = absurd cc
 answers_written words held a (broken job old new is breaks) w = absurd cc
 answers_written words held a (ran job old new client b is accepts ends) w = run_written _ _ b ends w

@@ -1,5 +1,8 @@
 -- What a job answers: the bytes on its two sinks and its status.
 use Rattle.std.specs.Prelude.{◌≡◌, ℕ, List, [], ◌∷◌, ◌++◌, codes, Option}
+use Rattle.std.specs.Fmt.{decimal}
+use Rattle.evo_base.specs.FaultText.{text_of}
+use Rattle.evo_tree.specs.declared.module.SourceFault.{SourceFault}
 use Rattle.evo_first_form.specs.declared.Function.{Function}
 use Rattle.evo_first_form.specs.declared.Client.{Client}
 use Rattle.evo_first_form.specs.Interface.{interface_of}
@@ -22,10 +25,14 @@ pub record Answer : Type 0 where
 abbrev pub words_answer : Answer
 words_answer = record { out = []; err = codes "words not understood\n"; status = status.NotUnderstood }
 
+-- what stands behind the name of a file with this fault: its line, its column and its text
+unfoldable pub fault_text : SourceFault → List ℕ
+fault_text fault = codes ":" ++ (decimal fault.place.line ++ (codes ":" ++ (decimal fault.place.col ++ (codes ": " ++ (text_of fault.kind ++ codes "\n")))))
+
 -- the answer on a file of this name with which something is wrong
 abbrev pub refused_answer : Refusal → List ℕ → Answer
 refused_answer refusal.TooLong name = record { out = []; err = name ++ codes ": file too long\n"; status = status.TooLong }
-refused_answer refusal.NotAccepted name = record { out = []; err = name ++ codes ":1:1: not built yet\n"; status = status.NotAccepted }
+refused_answer (refusal.Source fault) name = record { out = []; err = name ++ fault_text fault; status = status.NotAccepted }
 refused_answer refusal.InterfaceTooLong name = record { out = []; err = name ++ codes ": interface too long\n"; status = status.TooLong }
 
 -- the answer with this report

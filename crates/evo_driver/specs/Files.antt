@@ -1,13 +1,17 @@
 -- What a job finds in its files, in the order in which it reads them.
-use Rattle.std.specs.Prelude.{ℕ, ◌+◌, ◌<◌, ◌≤◌, List, length, Option}
+use Rattle.std.specs.Prelude.{◌≡◌, ◌⊎◌, ℕ, ◌+◌, ◌<◌, ◌≤◌, List, length, Option}
 use Rattle.evo_base.specs.Content.{IsFront}
+use Rattle.evo_base.specs.declared.fault_kind.FaultKind.TheVariants as kind
+use Rattle.evo_tree.specs.declared.module.Form.TheVariants as form
+use Rattle.evo_tree.specs.declared.module.SourceFault.{SourceFault}
 use Rattle.evo_first_form.specs.declared.Function.{Function}
 use Rattle.evo_first_form.specs.declared.Client.{Client}
 use Rattle.evo_first_form.specs.declared.Interface.{Interface}
 use Rattle.evo_first_form.specs.Interface.{interface_of}
 use Rattle.evo_first_form.specs.Rules.{BreaksNoRule}
 use Rattle.evo_iface.specs.Text.{interface_text}
-use Rattle.evo_front.specs.Texts.{file_limit, interface_limit, IsLibraryText, IsClientText}
+use Rattle.evo_front.specs.Texts.{file_limit, interface_limit, IsLibraryText, IsClientText, IsUnbuiltLibrary, IsUnbuiltClient}
+use Rattle.evo_parse.specs.Text.{IsTextFault}
 use Rattle.evo_words.specs.declared.words.Job.{Job}
 use Rattle.evo_driver.specs.declared.stop.Which.{Which}
 use Rattle.evo_driver.specs.declared.stop.Which.TheVariants as which
@@ -31,15 +35,19 @@ pub record IsLongLibrary (library text : List ℕ) : Type 0 where
   pub is : IsLibraryText library text functions
   pub interface_long : interface_limit < length (interface_text (interface_of library functions))
 
--- a text that is no library
-pub record IsNoLibrary (library text : List ℕ) : Type 0 where
+-- the fault of a text that spells a module which is not accepted: it is not built yet, at the first place
+abbrev pub unbuilt : SourceFault
+unbuilt = record { kind = kind.NotBuilt; place = record { line = 1; col = 1 } }
+
+-- a text that is no library, and its fault: the first one of a text that spells no module, or that its module is not accepted
+pub record IsNoLibrary (library text : List ℕ) (fault : SourceFault) : Type 0 where
   pub short : length text ≤ file_limit
-  pub none : (functions : List Function) → IsLibraryText library text functions → ⊥
+  pub why : IsTextFault text (form.Library library) fault ⊎ ((fault ≡ unbuilt) × IsUnbuiltLibrary library text)
 
 -- what is wrong with a text that is to be the library of this name
 abbrev pub IsWrongLibrary : List ℕ → Refusal → List ℕ → Type 0
 IsWrongLibrary library refusal.TooLong text = file_limit < length text
-IsWrongLibrary library refusal.NotAccepted text = IsNoLibrary library text
+IsWrongLibrary library (refusal.Source fault) text = IsNoLibrary library text fault
 IsWrongLibrary library refusal.InterfaceTooLong text = IsLongLibrary library text
 
 -- a text that is this client of the interface, and is not too long
@@ -47,15 +55,15 @@ pub record IsShortClient (interface : Interface) (text : List ℕ) (client : Cli
   pub short : length text ≤ file_limit
   pub is : IsClientText interface text client
 
--- a text that is no client of the interface
-pub record IsNoClient (interface : Interface) (text : List ℕ) : Type 0 where
+-- a text that is no client of the interface, and its fault: the first one of a text that spells no module, or that its module is not accepted
+pub record IsNoClient (interface : Interface) (text : List ℕ) (fault : SourceFault) : Type 0 where
   pub short : length text ≤ file_limit
-  pub none : (client : Client) → IsClientText interface text client → ⊥
+  pub why : IsTextFault text form.Client fault ⊎ ((fault ≡ unbuilt) × IsUnbuiltClient interface text)
 
 -- what is wrong with a text that is to be a client of the interface
 abbrev pub IsWrongClient : Interface → Refusal → List ℕ → Type 0
 IsWrongClient interface refusal.TooLong text = file_limit < length text
-IsWrongClient interface refusal.NotAccepted text = IsNoClient interface text
+IsWrongClient interface (refusal.Source fault) text = IsNoClient interface text fault
 IsWrongClient interface refusal.InterfaceTooLong text = ⊥
 
 abbrev pub HoldsLibrary : Option (List ℕ) → List ℕ → List Function → Type 0

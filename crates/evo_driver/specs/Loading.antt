@@ -40,7 +40,7 @@ IsShortText held text = IsFront held (file_limit + 1) text × (length text ≤ f
 -- a text of which no more is known than that it is too long
 abbrev pub IsWrongText : Option (List ℕ) → Refusal → Type 0
 IsWrongText held refusal.TooLong = Holds held (λ text. file_limit < length text)
-IsWrongText held refusal.NotAccepted = ⊥
+IsWrongText held (refusal.Source fault) = ⊥
 IsWrongText held refusal.InterfaceTooLong = ⊥
 
 -- a library with its interface

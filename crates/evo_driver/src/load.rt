@@ -3,14 +3,17 @@
 ghost use Rattle.std.specs.Prelude.{◌≡◌, ◌+◌, List, ℕ};
 ghost use Rattle.evo_first_form.specs.Accepted.{IsAcceptedInterface};
 ghost use Rattle.evo_iface.specs.Text.{IsPlain};
-ghost use Rattle.evo_driver.specs.Files.{Holds, HoldsClient, IsWrongLibrary, IsWrongClient};
+ghost use Rattle.evo_driver.specs.Files.{Holds, HoldsClient, IsWrongLibrary, IsWrongClient, unbuilt};
 ghost use Rattle.evo_driver.specs.Loading.{ReadsAs, IsShortText, IsWrongText, IsLibraryOf, LoadsLibraries, LoadsAs};
 
 use crate::stop::{Refusal, Stop, Which};
-use evo_base::{Files, GetFault, List, Name};
+use evo_base::{FaultKind, Files, GetFault, List, Name, Place};
 use evo_first_form::{Client, Function, Interface};
-use evo_front::{AcceptedLibrary, FILE_LIMIT, LibraryFault, accept_client, accept_library};
+use evo_front::{
+    AcceptedLibrary, ClientFault, FILE_LIMIT, LibraryFault, accept_client, accept_library,
+};
 use evo_rules::breaks;
+use evo_tree::SourceFault;
 use evo_words::Job;
 use std::alloc::Global;
 
@@ -26,6 +29,16 @@ pub struct Libraries {
 pub struct Loaded {
     pub libraries: Libraries,
     pub client: Client,
+}
+
+// The fault of a module that is not accepted.
+fn not_built() -> SourceFault
+    ensures { result ≡ unbuilt }
+{
+    SourceFault {
+        kind: FaultKind::NotBuilt,
+        place: Place { line: 1, col: 1 },
+    }
 }
 
 fn text_of<F: Files>(alloc: Global, files: &mut F, name: &Name, at: Which) -> Result<Vec<u8>, Stop>
@@ -58,7 +71,8 @@ fn get_library<F: Files>(
     let text = text_of(alloc, files, name, at)?;
     match accept_library(alloc, library, &text) {
         Ok(found) => Ok(found),
-        Err(LibraryFault::NotAccepted) => Err(Stop::Refused(at, Refusal::NotAccepted)),
+        Err(LibraryFault::Refused(fault)) => Err(Stop::Refused(at, Refusal::Source(fault))),
+        Err(LibraryFault::NotBuilt) => Err(Stop::Refused(at, Refusal::Source(not_built()))),
         Err(LibraryFault::InterfaceTooLong) => Err(Stop::Refused(at, Refusal::InterfaceTooLong)),
         Err(LibraryFault::Memory) => Err(Stop::Memory),
     }
@@ -78,9 +92,14 @@ fn get_client<F: Files>(
 {
     let text = text_of(alloc, files, name, Which::Client)?;
     match accept_client(alloc, interface, &text) {
-        Ok(Some(client)) => Ok(client),
-        Ok(None) => Err(Stop::Refused(Which::Client, Refusal::NotAccepted)),
-        Err(_) => Err(Stop::Memory),
+        Ok(client) => Ok(client),
+        Err(ClientFault::Refused(fault)) => {
+            Err(Stop::Refused(Which::Client, Refusal::Source(fault)))
+        }
+        Err(ClientFault::NotBuilt) => {
+            Err(Stop::Refused(Which::Client, Refusal::Source(not_built())))
+        }
+        Err(ClientFault::Memory) => Err(Stop::Memory),
     }
 }
 

@@ -1,14 +1,15 @@
 //! What a job gives before its text is on `err`.
 
-ghost use Rattle.std.specs.Prelude.{◌≡◌, ◌++◌, [], None, IfOk};
+ghost use Rattle.std.specs.Prelude.{◌≡◌, ◌++◌, [], None, IfOk, string_bytes};
 ghost use Rattle.evo_driver.specs.Top.{Replies};
-ghost use Rattle.evo_driver.specs.Answer.{words_answer, refused_answer, unread_answer};
+ghost use Rattle.evo_driver.specs.Answer.{words_answer, refused_answer, fault_text, unread_answer};
 ghost use Rattle.evo_driver.specs.declared.reply.Halt.TheVariants.{Memory, NotWritten};
 
 use crate::status::Status;
 use crate::stop::Refusal;
 use evo_base::{Failed, Name};
 use evo_machine::Machine;
+use evo_tree::SourceFault;
 use std::alloc::{AllocError, Global};
 
 /// The text that goes to `err`, the status, and the machine that ran.
@@ -72,6 +73,15 @@ fn text_on(alloc: Global, name: &Name, why: &[u8]) -> Result<Vec<u8>, AllocError
     Ok(text)
 }
 
+// What stands behind the name of a file with this fault.
+#[tactic(auto, unfolding(crate::specs::Answer::fault_text))]
+fn fault_line(alloc: Global, fault: SourceFault) -> Result<String, AllocError>
+    ensures { IfOk result (λ text. string_bytes text ≡ fault_text fault) }
+{
+    let place = fault.place;
+    format!(in alloc; ":{}:{}: {}\n", place.line, place.col, fault.kind.text())
+}
+
 /// A reply to a file of this name that is refused.
 pub fn refused(alloc: Global, name: &Name, why: Refusal) -> Result<Reply, AllocError>
     ensures { IfOk result (Replies (refused_answer why name.now)) }
@@ -81,8 +91,9 @@ pub fn refused(alloc: Global, name: &Name, why: Refusal) -> Result<Reply, AllocE
             let text = text_on(alloc, name, b": file too long\n")?;
             Ok(told(text, Status::TooLong))
         }
-        Refusal::NotAccepted => {
-            let text = text_on(alloc, name, b":1:1: not built yet\n")?;
+        Refusal::Source(fault) => {
+            let line = fault_line(alloc, fault)?;
+            let text = text_on(alloc, name, line.as_bytes())?;
             Ok(told(text, Status::NotAccepted))
         }
         Refusal::InterfaceTooLong => {

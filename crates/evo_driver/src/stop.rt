@@ -2,6 +2,7 @@ ghost use Rattle.std.specs.Prelude.{◌≡◌};
 ghost use Rattle.evo_driver.specs.declared.stop.Stop.TheVariants.{Memory};
 
 use evo_base::{List, Name};
+use evo_tree::SourceFault;
 use std::alloc::AllocError;
 
 /// One of the files of a job.
@@ -13,18 +14,18 @@ pub enum Which {
 }
 
 /// What is wrong with a file that was read.
-#[derive(Clone, Copy, Debug, PartialEq, Eq)]
+#[derive(Clone, Copy, PartialEq, Eq)]
 pub enum Refusal {
     /// It has too many bytes.
     TooLong,
-    /// It is not accepted.
-    NotAccepted,
+    /// It is not accepted: its first fault. A module that is not accepted has its fault at its beginning.
+    Source(SourceFault),
     /// It is accepted as a library, and the text of its interface has too many bytes.
     InterfaceTooLong,
 }
 
 /// Why a job's files are not run.
-#[derive(Debug, Drop)]
+#[derive(Drop)]
 pub enum Stop {
     NotRead(Which),
     Refused(Which, Refusal),

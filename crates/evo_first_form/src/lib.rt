@@ -2,15 +2,27 @@
 //!
 //! A library of this form is a list of functions without parameters, each of which returns an
 //! integer or what another function returns. A client imports one library and prints integers and
-//! what its functions return.
+//! what its functions return. Modules are read by the whole grammar; which of them are of this form
+//! is a condition on their trees (`specs/FirstForm`).
 #![tactic(auto)]
 
+mod clients;
+mod laws;
+mod libraries;
+mod only;
+mod terms;
+mod words;
+
+pub use clients::client_of;
 use evo_base::{List, Name};
+pub use laws::{client_facts, library_facts};
+pub use libraries::library_of;
+pub use words::is_name;
 
 /// Who may use a function.
 #[derive(Clone, Copy, Debug, PartialEq, Eq)]
 pub enum Access {
-    /// The library alone: nothing is written before `func`.
+    /// The library alone: `internal`, or nothing is written.
     Internal,
     /// Clients too, which call it in the library that they run with: `public`.
     Public,

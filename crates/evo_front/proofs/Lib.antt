@@ -3,3 +3,4 @@ pub mod Free
 pub mod Visible
 pub mod Plain
 pub mod Within
+pub mod Unbuilt

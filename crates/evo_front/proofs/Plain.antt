@@ -9,9 +9,9 @@ use Rattle.evo_first_form.specs.declared.Term.TheVariants.{Integer, Call}
 use Rattle.evo_first_form.specs.declared.Function.{Function}
 use Rattle.evo_first_form.specs.Interface.{declarations_of, interface_of}
 use Rattle.evo_lex.proofs.Identifiers.{identifier_lacks}
-use Rattle.evo_parse.specs.Words.{IsName}
-use Rattle.evo_parse.specs.Facts.{FunctionFacts, LibraryFacts, TermFacts}
-use Rattle.evo_parse.proofs.WordLemmas.{name_text, name_is}
+use Rattle.evo_first_form.specs.Words.{IsName}
+use Rattle.evo_first_form.specs.Facts.{FunctionFacts, LibraryFacts, TermFacts}
+use Rattle.evo_first_form.proofs.WordLemmas.{name_text, name_is}
 use Rattle.evo_iface.specs.Text.{Lacks, IsPlain, IsPlainTerm, ArePlain, IsReadable}
 
 lacks : (byte : ℕ) (xs : List ℕ) → ((i : ℕ) → i < length xs → get_or xs i 0 ≢ byte) → Lacks byte xs

@@ -8,7 +8,7 @@ mod library;
 mod limits;
 mod names;
 
-pub use client::accept_client;
+pub use client::{ClientFault, accept_client};
 pub use laws::interfaces_are_accepted;
 pub use library::{AcceptedLibrary, LibraryFault, accept_library};
 pub use limits::FILE_LIMIT;

@@ -10,11 +10,7 @@ use std::process::ExitCode;
 use std::{env, rt};
 
 #[cfg(test)]
-mod expression_tests;
-#[cfg(test)]
 mod tests;
-#[cfg(test)]
-mod tree_tests;
 
 // The words behind the program's name. Where the system does not hand them over as texts, there are none.
 fn words_of<R: rt::Runtime<A = Global>>(system: &R) -> Result<Vec<Name>, AllocError> {

@@ -1,0 +1,7 @@
+use Rattle.std.proofs.Common.{◌≡◌, drop}
+use Rattle.evo_first_form.specs.FirstForm.{each_of, function_at}
+use Rattle.evo_first_form.proofs.Each.{then_of}
+use Rattle.evo_first_form.proofs.libraries.functions_of.Given as goal
+
+abbrev pub invariant-loop-item : goal.invariant-loop-item
+invariant-loop-item l = each_of function_at l.items ≡ then_of l.functions.items (each_of function_at (drop l.item-index l.items))
