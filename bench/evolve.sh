@@ -2,13 +2,7 @@
 # Times `swevo evolve` on libraries of 1,024 and of 4,096 functions, with a client that calls each
 # of them once, and checks every line that comes out. The program is built first where it has to be.
 # Each time is the least of three runs; a run that takes longer than 120 seconds is an error.
-set -eu
-shopt -s inherit_errexit
-
-swevo="$(dirname -- "$(dirname -- "$(readlink -f -- "${BASH_SOURCE[0]}")")")/bin/swevo"
-folder="$(mktemp -d)"
-trap 'rm -rf -- "$folder"' EXIT
-cd -- "$folder"
+. "$(dirname -- "$(readlink -f -- "${BASH_SOURCE[0]}")")/common.sh"
 
 # The number of the function that the Nth call calls: each number once, in no order of the library.
 # The old function I returns I, and the new one 3 * I + 1. Of four functions the first two are
@@ -32,24 +26,16 @@ write_files() {
     }'
 }
 
-# Runs the program once, checks what it printed, and prints its time in microseconds.
-time_run() {
-    local start="${EPOCHREALTIME/[.,]/}"
-    timeout 120 "$swevo" evolve Lib old.swift new.swift main.swift 100000 >printed
-    local end="${EPOCHREALTIME/[.,]/}"
+run() {
+    time_of "$swevo" evolve Lib old.swift new.swift main.swift 100000
+    [[ "$(cat status)" == 0 ]]
     cmp -- printed expected >&2
-    echo $((end - start))
 }
 
 # Prints the least time of three runs with so many functions, in microseconds.
 least_time() {
-    local least time turn
     write_files "$1"
-    for turn in 1 2 3; do
-        time="$(time_run)"
-        if [[ "$turn" == 1 || "$time" -lt "$least" ]]; then least="$time"; fi
-    done
-    echo "$least"
+    least_of 3 run
 }
 
 printf 'public func f() -> Int { return 1 }\n' >old.swift

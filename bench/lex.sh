@@ -1,15 +1,8 @@
 #!/usr/bin/env bash
 # Times how long `swevo` takes over sources of 256 KiB, 512 KiB and 1 MiB with tokens and comments of all
-# kinds. A source is cut into tokens whole before it is read, and its first line is no library of the form
-# that is built today, so nearly all of the time is that of the lexer.
-# Each time is the least of five runs.
-set -eu
-shopt -s inherit_errexit
-
-swevo="$(dirname -- "$(dirname -- "$(readlink -f -- "${BASH_SOURCE[0]}")")")/bin/swevo"
-folder="$(mktemp -d)"
-trap 'rm -rf -- "$folder"' EXIT
-cd -- "$folder"
+# kinds. A source is cut into tokens whole before it is read, and its first token begins nothing in a
+# library, so nearly all of the time is that of the lexer. Each time is the least of five runs.
+. "$(dirname -- "$(readlink -f -- "${BASH_SOURCE[0]}")")/common.sh"
 
 # Writes a source of so many bytes: as many whole lines as fit, and then spaces.
 write_source() {
@@ -30,25 +23,14 @@ write_source() {
     [[ "$(wc -c <source.swift)" == "$1" ]]
 }
 
-# Runs the program once, checks its answer, and prints its time in microseconds.
-time_run() {
-    local status=0
-    local start="${EPOCHREALTIME/[.,]/}"
-    "$swevo" evolve Lib source.swift source.swift source.swift 1 2>told || status=$?
-    local end="${EPOCHREALTIME/[.,]/}"
-    [[ "$status" == 4 && "$(cat told)" == "source.swift:1:1: not built yet" ]]
-    echo $((end - start))
+run() {
+    time_of "$swevo" evolve Lib source.swift source.swift source.swift 1
+    [[ "$(cat status)" == 4 && "$(cat told)" == "source.swift:1:1: not in the grammar" ]]
 }
 
-# Prints the least time of five runs over a source of so many bytes, in microseconds.
 least_time() {
-    local least time turn
     write_source "$1"
-    for turn in 1 2 3 4 5; do
-        time="$(time_run)"
-        if [[ "$turn" == 1 || "$time" -lt "$least" ]]; then least="$time"; fi
-    done
-    echo "$least"
+    least_of 5 run
 }
 
 small="$(least_time 262144)"
