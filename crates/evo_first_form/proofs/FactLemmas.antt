@@ -19,7 +19,7 @@ use Rattle.evo_tree.specs.declared.declaration.DeclKind.{DeclKind, DeclKind-F, o
 use Rattle.evo_tree.specs.declared.declaration.DeclKind.TheOpen as decl
 use Rattle.evo_tree.specs.declared.module.Item.{Item}
 use Rattle.evo_tree.specs.declared.module.Item.TheVariants as item
-use Rattle.evo_tree.specs.declared.module.Module.{Module}
+use Rattle.evo_tree.specs.declared.module.ModuleTree.{ModuleTree}
 use Rattle.evo_first_form.specs.declared.Access.{Access}
 use Rattle.evo_first_form.specs.declared.Term.{Term}
 use Rattle.evo_first_form.specs.declared.Term.TheVariants as term
@@ -107,7 +107,7 @@ function_fact : (i : Item) (f : Function) → function_at i ≡ Some f → Funct
 function_fact (item.Decl d) f e = function_level_fact (access_of (out-Decl d).attrs (out-Decl d).modifiers) (out-DeclKind (out-Decl d).kind) f e
 function_fact (item.Stmt s) f e = absurd cc
 
-pub library_fact : (m : Module) (fs : List Function) → library_of m ≡ Some fs → LibraryFacts fs
+pub library_fact : (m : ModuleTree) (fs : List Function) → library_of m ≡ Some fs → LibraryFacts fs
 library_fact m fs e = each_fact function_at FunctionFacts function_fact m.items fs (if_some (is_nil m.imports) (each_of function_at m.items) fs e).1
 
 -- ---- clients
@@ -151,7 +151,7 @@ with_fact items name c e =
     let m = map_some (client name.text) (each_of print_at items) c w.1 in
     subst ClientFacts m.2 (record { name = name_says name.text w.0; prints = each_fact print_at PrintFacts print_fact items m.0 m.1 })
 
-pub client_fact : (m : Module) (c : Client) → client_of m ≡ Some c → ClientFacts c
+pub client_fact : (m : ModuleTree) (c : Client) → client_of m ≡ Some c → ClientFacts c
 client_fact m c e =
     let w = and_then_some (client_with m.items) (only_of m.imports) c e in
     with_fact m.items w.0 c w.2

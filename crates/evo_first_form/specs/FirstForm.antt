@@ -32,7 +32,7 @@ use Rattle.evo_tree.specs.declared.declaration.DeclKind.{DeclKind, DeclKind-F, o
 use Rattle.evo_tree.specs.declared.declaration.DeclKind.TheOpen as decl
 use Rattle.evo_tree.specs.declared.module.Item.{Item}
 use Rattle.evo_tree.specs.declared.module.Item.TheVariants as item
-use Rattle.evo_tree.specs.declared.module.Module.{Module}
+use Rattle.evo_tree.specs.declared.module.ModuleTree.{ModuleTree}
 use Rattle.evo_first_form.specs.declared.Access.{Access}
 use Rattle.evo_first_form.specs.declared.Access.TheVariants as access
 use Rattle.evo_first_form.specs.declared.Term.{Term}
@@ -136,7 +136,7 @@ function_at (item.Decl d) = function_of d
 function_at (item.Stmt s) = None
 
 -- library
-abbrev pub library_of : Module → Option (List Function)
+abbrev pub library_of : ModuleTree → Option (List Function)
 library_of m = if is_nil m.imports then each_of function_at m.items else None
 
 -- ---- clients
@@ -174,5 +174,5 @@ abbrev pub client_with : List Item → Identifier → Option Client
 client_with items name = if is_name name.text then option_map (λ ps. record { «import» = name.text; prints = ps }) (each_of print_at items) else None
 
 -- client
-abbrev pub client_of : Module → Option Client
+abbrev pub client_of : ModuleTree → Option Client
 client_of m = option_and_then (client_with m.items) (only_of m.imports)

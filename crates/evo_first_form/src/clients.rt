@@ -8,7 +8,7 @@ use crate::terms::term_of;
 use crate::words::is_name;
 use crate::{Client, Print, Term};
 use evo_base::List;
-use evo_tree::{Argument, Expr, Identifier, Item, Module, Stmt};
+use evo_tree::{Argument, Expr, Identifier, Item, Module, ModuleTree, Stmt};
 use std::alloc::{AllocError, Global};
 
 // The term that is an argument without a label.
@@ -99,12 +99,19 @@ fn client_with(
     }
 }
 
+// The client that a tree is.
+fn client_in(alloc: Global, tree: &ModuleTree) -> Result<Option<Client>, AllocError>
+    ensures { IfOk result (λ found. found ≡ spec.client_of tree.now) }
+{
+    match only(tree.imports.as_slice()) {
+        Some(import) => client_with(alloc, tree.items.as_slice(), import),
+        None => Ok(None),
+    }
+}
+
 /// The client that a module is, where it is one of the first form.
 pub fn client_of(alloc: Global, module: &Module) -> Result<Option<Client>, AllocError>
     ensures { IfOk result (λ found. found ≡ spec.client_of «module».now) }
 {
-    match only(module.imports.as_slice()) {
-        Some(import) => client_with(alloc, module.items.as_slice(), import),
-        None => Ok(None),
-    }
+    client_in(alloc, module.tree())
 }

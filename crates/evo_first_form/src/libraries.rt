@@ -9,8 +9,8 @@ use crate::words::is_name;
 use crate::{Access, Function, Term};
 use evo_base::{List, Name};
 use evo_tree::{
-    Attr, AttrKind, Block, Decl, DeclKind, Header, Item, Modifier, ModifierKind, Module, Stmt,
-    TypeName,
+    Attr, AttrKind, Block, Decl, DeclKind, Header, Item, Modifier, ModifierKind, Module,
+    ModuleTree, Stmt, TypeName,
 };
 use std::alloc::{AllocError, Global};
 
@@ -131,13 +131,20 @@ fn functions_of(alloc: Global, items: &[Item]) -> Result<Option<List<Function>>,
     Ok(Some(List::from_vec(functions)))
 }
 
+// The library that a tree is.
+fn library_in(alloc: Global, tree: &ModuleTree) -> Result<Option<List<Function>>, AllocError>
+    ensures { IfOk result (λ found. found ≡ spec.library_of tree.now) }
+{
+    if tree.imports.as_slice().is_empty() {
+        functions_of(alloc, tree.items.as_slice())
+    } else {
+        Ok(None)
+    }
+}
+
 /// The library that a module is, where it is one of the first form.
 pub fn library_of(alloc: Global, module: &Module) -> Result<Option<List<Function>>, AllocError>
     ensures { IfOk result (λ found. found ≡ spec.library_of «module».now) }
 {
-    if module.imports.as_slice().is_empty() {
-        functions_of(alloc, module.items.as_slice())
-    } else {
-        Ok(None)
-    }
+    library_in(alloc, module.tree())
 }

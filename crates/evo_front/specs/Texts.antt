@@ -7,7 +7,7 @@ use Rattle.evo_first_form.specs.Interface.{interface_of}
 use Rattle.evo_first_form.specs.Accepted.{IsAcceptedLibrary, IsAcceptedInterface, IsAcceptedClient}
 use Rattle.evo_first_form.specs.FirstForm.{library_of, client_of}
 use Rattle.evo_tree.specs.declared.module.Form.TheVariants as form
-use Rattle.evo_tree.specs.declared.module.Module.{Module}
+use Rattle.evo_tree.specs.declared.module.ModuleTree.{ModuleTree}
 use Rattle.evo_tree.specs.Modules.{Spells}
 use Rattle.evo_parse.specs.Text.{IsTextFault}
 use Rattle.evo_iface.specs.Text.{interface_text}
@@ -27,37 +27,37 @@ interface_limit = 2 ^ 24
 
 -- a text that is accepted as a library of this name, with these functions: it spells a module of the first form
 pub record IsLibraryText (library text : List ℕ) (functions : List Function) : Type 0 where
-  pub tree : Module
+  pub tree : ModuleTree
   pub spells : Spells text (form.Library library) tree
   pub form_is : library_of tree ≡ Some functions
   pub accepted : IsAcceptedLibrary library functions
 
 -- a text that is accepted as a client of the interface: it spells a module of the first form
 pub record IsClientText (interface : Interface) (text : List ℕ) (client : Client) : Type 0 where
-  pub tree : Module
+  pub tree : ModuleTree
   pub spells : Spells text form.Client tree
   pub form_is : client_of tree ≡ Some client
   pub accepted : IsAcceptedClient interface client
 
 -- a text that spells the module of a library, which is not accepted
 pub record IsUnbuiltLibrary (library text : List ℕ) : Type 0 where
-  pub tree : Module
+  pub tree : ModuleTree
   pub spells : Spells text (form.Library library) tree
   pub none : (functions : List Function) → IsLibraryText library text functions → ⊥
 
 -- a text that spells the module of a client, which is not accepted
 pub record IsUnbuiltClient (interface : Interface) (text : List ℕ) : Type 0 where
-  pub tree : Module
+  pub tree : ModuleTree
   pub spells : Spells text form.Client tree
   pub none : (client : Client) → IsClientText interface text client → ⊥
 
 -- the functions of the library that a module is, or that it is none that is accepted
-abbrev pub FindsLibrary : List ℕ → Module → Option (List Function) → Type 0
+abbrev pub FindsLibrary : List ℕ → ModuleTree → Option (List Function) → Type 0
 FindsLibrary library tree None = (functions : List Function) → library_of tree ≡ Some functions → IsAcceptedLibrary library functions → ⊥
 FindsLibrary library tree (Some functions) = (library_of tree ≡ Some functions) × IsAcceptedLibrary library functions
 
 -- the client that a module is, or that it is none that is accepted
-abbrev pub FindsClient : Interface → Module → Option Client → Type 0
+abbrev pub FindsClient : Interface → ModuleTree → Option Client → Type 0
 FindsClient interface tree None = (client : Client) → client_of tree ≡ Some client → IsAcceptedClient interface client → ⊥
 FindsClient interface tree (Some client) = (client_of tree ≡ Some client) × IsAcceptedClient interface client
 

@@ -1,15 +1,21 @@
 -- What the outcomes of the reader of modules say of the grammar.
-use Rattle.std.proofs.Common.{◌≡◌, ℕ, suc, ◌-◌, List, [], ◌∷◌, length, None, Ok, Err, refl, sym, ◌∙◌, ap, subst}
+use Rattle.std.proofs.Common.{◌≡◌, ℕ, suc, ◌-◌, List, [], ◌∷◌, length, Option, None, Ok, Err, refl, sym, ◌∙◌, ap, subst}
 use Rattle.evo_base.specs.declared.token.Token.{Token}
+use Rattle.evo_lex.specs.Cut.{Cut}
 use Rattle.evo_combinators.specs.declared.Fault.TheVariants.{Grammar, Deep}
 use Rattle.evo_combinators.specs.declared.ReadError.{ReadError}
 use Rattle.evo_combinators.specs.declared.ReadError.TheVariants as errors
 use Rattle.evo_combinators.specs.Reader.{Outcome, Reader, Fails}
 use Rattle.evo_combinators.proofs.Says as says
+use Rattle.evo_tree.specs.declared.declaration.Release.{Release}
+use Rattle.evo_tree.specs.declared.name.Identifier.{Identifier}
 use Rattle.evo_tree.specs.declared.module.Form.{Form}
+use Rattle.evo_tree.specs.declared.module.Item.{Item}
 use Rattle.evo_tree.specs.declared.module.ModulePart.{ModulePart}
+use Rattle.evo_tree.specs.declared.module.ModuleTree.{ModuleTree}
 use Rattle.evo_tree.specs.Pieces.{Piece, pieces, opens_nesting}
-use Rattle.evo_tree.specs.Modules.{nesting}
+use Rattle.evo_tree.specs.Modules.{Spells, IsNamed, nesting, imports_of, items_of}
+use Rattle.evo_tree.specs.Spelled.{IsSpelled}
 use Rattle.evo_parse_expr.specs.Fault.{Places}
 use Rattle.evo_parse_expr.specs.declared.parse.ParseFault.{ParseFault}
 use Rattle.evo_parse_expr.proofs.Nesting.{May}
@@ -64,3 +70,22 @@ module _ (f : Form) where
   faulty text tokens (errors.Fault (Deep left)) p fails places =
       let same = length_pieces text None tokens in
       subst (IsFault text tokens f) (sym places) (length tokens - left, subst (λ n. IsDeepIn f (pieces text tokens) (n - left)) same (deep (pieces text tokens) left fails), refl)
+
+  -- the module whose parts all tokens of a text spell
+  pub spells : (text : List ℕ) (tokens : List Token) (ps : List Piece) (name : List ℕ) (release : Option Release) (imports : List Identifier) (items : List Item) (found : List ModulePart)
+      → Cut text tokens → ps ≡ pieces text tokens → all_of (reader nesting ps) ≡ Ok found → IsNamed text f name release → imports ≡ imports_of found → items ≡ items_of found
+      → Spells text f (record { form = f; name = name; release = release; imports = imports; items = items })
+  spells text tokens ps name release imports items found cut same read named imports_are items_are = record {
+    tokens = tokens;
+    cut = cut;
+    parts = found;
+    spelled = spelled (pieces text tokens) found (ap (λ (us : List Piece). all_of (reader nesting us)) (sym same) ∙ read);
+    form_is = refl;
+    named = named;
+    imports_are = imports_are;
+    items_are = items_are;
+  }
+
+-- a tree that a text spells is one that some text spells
+pub of_text : (text : List ℕ) (f : Form) (m : ModuleTree) → Spells text f m → IsSpelled m
+of_text text f m spells = record { text = text; form = f; spelled = m; spells = spells; same = refl }

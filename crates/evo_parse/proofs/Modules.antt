@@ -14,7 +14,7 @@ use Rattle.evo_tree.specs.declared.declaration.Release.{Release}
 use Rattle.evo_tree.specs.declared.module.Form.{Form}
 use Rattle.evo_tree.specs.declared.module.Form.TheVariants as form
 use Rattle.evo_tree.specs.declared.module.Item.{Item}
-use Rattle.evo_tree.specs.declared.module.Module.{Module}
+use Rattle.evo_tree.specs.declared.module.ModuleTree.{ModuleTree}
 use Rattle.evo_tree.specs.declared.module.ModulePart.{ModulePart}
 use Rattle.evo_tree.specs.declared.module.SourceFault.{SourceFault}
 use Rattle.evo_tree.specs.Pieces.{Piece, pieces, opens_nesting}
@@ -39,7 +39,7 @@ named_once text form.Interface a b (Some r) None x y = absurd y
 named_once text form.Interface a b (Some r) (Some s) x y = let (same, released) = headed_once text a b r s x y in (same, ap (λ z. Some z) released)
 
 -- modules with the same parts
-same_module : (m n : Module) → m.form ≡ n.form → m.name ≡ n.name → m.release ≡ n.release → m.imports ≡ n.imports → m.items ≡ n.items → m ≡ n
+same_module : (m n : ModuleTree) → m.form ≡ n.form → m.name ≡ n.name → m.release ≡ n.release → m.imports ≡ n.imports → m.items ≡ n.items → m ≡ n
 same_module m n a b c d e =
     ap (λ x. record { form = x; name = m.name; release = m.release; imports = m.imports; items = m.items }) a
     ∙ ap (λ x. record { form = n.form; name = x; release = m.release; imports = m.imports; items = m.items }) b

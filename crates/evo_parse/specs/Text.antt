@@ -7,7 +7,7 @@ use Rattle.evo_base.specs.declared.token.Token.{Token}
 use Rattle.evo_lex.specs.Cut as cut
 use Rattle.evo_lex.specs.Cut.{Cut}
 use Rattle.evo_tree.specs.declared.module.Form.{Form}
-use Rattle.evo_tree.specs.declared.module.Module.{Module}
+use Rattle.evo_tree.specs.declared.module.ModuleTree.{ModuleTree}
 use Rattle.evo_tree.specs.declared.module.SourceFault.{SourceFault}
 use Rattle.evo_tree.specs.Pieces.{pieces}
 use Rattle.evo_tree.specs.Modules.{Spells}
@@ -29,11 +29,11 @@ IsUnread text f fault.Memory = Unit {0}
 
 -- a text spells at most one module of a form
 abbrev pub OneModule : Type 0
-OneModule = (text : List ℕ) (f : Form) (m n : Module) → Spells text f m → Spells text f n → m ≡ n
+OneModule = (text : List ℕ) (f : Form) (m n : ModuleTree) → Spells text f m → Spells text f n → m ≡ n
 
 -- a text that spells a module has no fault
 abbrev pub NoFault : Type 0
-NoFault = (text : List ℕ) (f : Form) (m : Module) (x : SourceFault) → Spells text f m → IsTextFault text f x → ⊥
+NoFault = (text : List ℕ) (f : Form) (m : ModuleTree) (x : SourceFault) → Spells text f m → IsTextFault text f x → ⊥
 
 -- a text has at most one first fault
 abbrev pub OneFault : Type 0

@@ -9,7 +9,7 @@ use crate::part::{all_parts, split};
 use evo_base::{Name, Token};
 use evo_heading::heading;
 use evo_parse_expr::{Cursor, ParseFault, fault_of, lexemes};
-use evo_tree::{Form, Module, Release};
+use evo_tree::{Form, Module, ModuleTree, Release};
 use std::alloc::{AllocError, Global};
 
 /// How much nesting may open.
@@ -49,11 +49,11 @@ pub fn parse(alloc: Global, text: &[u8], tokens: &[Token], form: Form) -> Result
     };
     let (imports, items) = split(alloc, parts)?;
     let (name, release) = named(alloc, text, &form)?;
-    Ok(Module {
+    Ok(Module::of_text(ModuleTree {
         form,
         name,
         release,
         imports,
         items,
-    })
+    }))
 }

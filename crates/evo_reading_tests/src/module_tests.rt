@@ -20,8 +20,8 @@ use std::alloc::{AllocError, Global};
 use std::process::Abort;
 use std::test::Fail;
 
-// The first two lines of an interface.
-const LINES: &str = "// swift-interface-format-version: 1.0\n// swevo-module: Lib 1.0\n";
+/// The first two lines of an interface.
+pub(crate) const LINES: &str = "// swift-interface-format-version: 1.0\n// swevo-module: Lib 1.0\n";
 
 // Imports stand before all else.
 const IMPORTS: &str = "\
@@ -240,8 +240,8 @@ L^let x = [1]^1:9: not a token~\
 I^import Swift\npublic func f() { }\n$^5:1: not a token~\
 I^func f()\n?^4:1: not a token";
 
-// Whole trees.
-const TREES: &str = "\
+/// Whole trees.
+pub(crate) const TREES: &str = "\
 L^public func f() -> Int { return 1 }^public func f() -> Int {return 1}~\
 L^@inlinable public func total<T: Measured & P, U>(_ a: T, b c: U, d: Int) -> T.A where T.A == Int, U: Q & R { return a.size() + b.size() }^@inlinable public func total<T: Measured & P, U>(_ a: T, b c: U, d: Int) -> T.A where T.A == Int, U: Q & R {return <{a .size()} + {b .size()}>}~\
 L^func f() -> Void {}\nfunc g() -> () {}\nfunc h() -> Void.X {}^internal func f() {}; internal func g() {}; internal func h() -> Void.X {}~\
@@ -261,8 +261,8 @@ C^switch x {\ncase 1, -2, \"s\", true: a\nb\ncase E.f(_): c\n@unknown default: d
 C^struct V { var n: Int }; func k(_ o: K) -> K { print(\"root\"); return o }; k(o).v.n = val()^internal struct V [internal var n: Int]; internal func k(_ o: K) -> K {print(\"root\"); return o}; {k(o) .v .n} = val()~\
 C^(a)\n-b\nreturn\n(c)^[a]; (- b); return; [c]";
 
-// Whole sources of libraries, clients and interfaces.
-const SOURCES: &str = "\
+/// Whole sources of libraries, clients and interfaces.
+pub(crate) const SOURCES: &str = "\
 L^public func f() -> Int { return 1 }^public func f {..}~\
 L^public func f() -> Int { return 2 }^public func f {..}~\
 C^import Lib\nprint(f())^import Lib; expr~\
@@ -347,8 +347,8 @@ L^struct S { var x: A { get ^{while a ^62^{}^}^ } }^1:585: nested too deeply~\
 I^import Swift\n@inlinable public func f() ^{while a ^63^{}^}^^import Swift; @inlinable public func f {..}~\
 I^import Swift\n@inlinable public func f() ^{while a ^64^{}^}^^4:604: nested too deeply";
 
-// What the reader answers.
-type Answer = Result<Module, TextFault>;
+/// What the reader answers.
+pub(crate) type Answer = Result<Module, TextFault>;
 
 // What is asked of the reader is left out of these three, since nothing more is said of what they answer.
 fn library(alloc: Global, text: &[u8]) -> Result<Answer, AllocError> {
@@ -376,14 +376,23 @@ fn interface(alloc: Global, text: &[u8]) -> Result<Answer, AllocError> {
     Ok(read_module(alloc, text, Form::Interface))
 }
 
-fn read(alloc: Global, form: &str, text: &str) -> Result<Answer, Fail> {
+/// What a whole text is in a form.
+pub(crate) fn read_whole(alloc: Global, form: &str, text: &[u8]) -> Result<Answer, AllocError> {
     match form {
-        "L" => Ok(library(alloc, text.as_bytes())?),
-        "C" => Ok(client(alloc, text.as_bytes())?),
-        _ => {
+        "L" => library(alloc, text),
+        "C" => client(alloc, text),
+        _ => interface(alloc, text),
+    }
+}
+
+/// What the text of a row is in a form.
+pub(crate) fn read(alloc: Global, form: &str, text: &str) -> Result<Answer, Fail> {
+    match form {
+        "I" => {
             let whole = format!(in alloc; "{LINES}{text}")?;
-            Ok(interface(alloc, whole.as_bytes())?)
+            Ok(read_whole(alloc, form, whole.as_bytes())?)
         }
+        _ => Ok(read_whole(alloc, form, text.as_bytes())?),
     }
 }
 
@@ -521,8 +530,9 @@ fn texts_that_are_not_utf8(rt: HostRuntime) -> Result<(), Fail> {
 
 // A module's name, and its release where it has one.
 fn titled(alloc: Global, module: &Module) -> Result<String, Fail> {
-    let name = str::from_utf8(module.name.as_slice()).unwrap_or("");
-    match module.release {
+    let tree = module.tree();
+    let name = str::from_utf8(tree.name.as_slice()).unwrap_or("");
+    match tree.release {
         Some(release) => { Ok(format!(in alloc; "{name} {}.{}", release.major, release.minor)?) }
         None => Ok(format!(in alloc; "{name}")?),
     }

@@ -10,7 +10,7 @@ use evo_lex::lex;
 use evo_parse_decl::declaration;
 use evo_parse_expr::{Cursor, lexemes};
 use evo_parse_stmt::{block, statement};
-use evo_tree::{Form, Item, Module, Stmt, same};
+use evo_tree::{Form, Item, ModuleTree, Stmt};
 use std::alloc::Global;
 use std::fmt::Write;
 use std::process::Abort;
@@ -409,11 +409,11 @@ x += 1^x -= 1^other~\
 x = 1^x == 1^other~\
 return^return 1^other";
 
-// A client that is this one statement.
-fn client(alloc: Global, statement: Stmt) -> Result<Module, Fail> {
+// The tree of a client that is this one statement.
+fn client(alloc: Global, statement: Stmt) -> Result<ModuleTree, Fail> {
     let mut items = Vec::new(alloc);
     items.push(Item::Stmt(statement))?;
-    Ok(Module {
+    Ok(ModuleTree {
         form: Form::Client,
         name: Name::from_vec(Vec::from_slice(alloc, b"main")?),
         release: None,
@@ -422,8 +422,8 @@ fn client(alloc: Global, statement: Stmt) -> Result<Module, Fail> {
     })
 }
 
-// The client that is the one statement of a text.
-fn client_of(alloc: Global, text: &str) -> Result<Option<Module>, Fail> {
+// The tree of the client that is the one statement of a text.
+fn client_of(alloc: Global, text: &str) -> Result<Option<ModuleTree>, Fail> {
     let bytes = text.as_bytes();
     if bytes.len() > 1_000 {
         return Ok(None);
@@ -439,13 +439,13 @@ fn client_of(alloc: Global, text: &str) -> Result<Option<Module>, Fail> {
     }
 }
 
-// What is said of a module's copy and another module.
-fn compared(alloc: Global, a: &Module, b: &Module) -> Result<&'static str, Fail> {
+// What is said of a tree's copy and another tree.
+fn compared(alloc: Global, a: &ModuleTree, b: &ModuleTree) -> Result<&'static str, Fail> {
     let copy = a.copy(alloc)?;
-    if !same(&copy, a) {
+    if !copy.same(a) {
         return Ok("not copied");
     }
-    Ok(if same(&copy, b) { "same" } else { "other" })
+    Ok(if copy.same(b) { "same" } else { "other" })
 }
 
 fn verdict(alloc: Global, a: &str, b: &str) -> Result<&'static str, Fail> {

@@ -35,7 +35,7 @@ use Rattle.evo_tree.specs.declared.declaration.DeclKind.TheVariants as d
 use Rattle.evo_tree.specs.declared.declaration.DeclKind.TheVariants.{rolls-Function}
 use Rattle.evo_tree.specs.declared.module.Form.TheVariants as form
 use Rattle.evo_tree.specs.declared.module.Item.TheVariants as item
-use Rattle.evo_tree.specs.declared.module.Module.{Module}
+use Rattle.evo_tree.specs.declared.module.ModuleTree.{ModuleTree}
 use Rattle.evo_tree.specs.Bare.{origin}
 use Rattle.evo_tree.specs.Canonical.{Text, expr_level, expr_text, clause_level, block_level, stmt_level, block_text, stmt_text, accessors_text, kind_level, decl_level, decl_text, head_text, canonical_text}
 
@@ -152,7 +152,7 @@ copied_text : decl_text copied 0 ≡ codes "@inlinable public func f() -> Swift.
 unfolding copied header
 copied_text = rw (fold-roll-Decl Lines Lines kind_level decl_level _) (rw (function _ _ _) (rw (block_is _) (rw (give _) (rw one refl))))
 
-abbrev pub interface : Module
+abbrev pub interface : ModuleTree
 interface = record { form = form.Interface; name = codes "Lib"; release = Some (record { major = 1; minor = 2 }); imports = name (codes "Swift") ∷ []; items = item.Decl copied ∷ [] }
 
 pub interface_text : canonical_text interface ≡ codes "// swift-interface-format-version: 1.0\n// swevo-module: Lib 1.2\nimport Swift\n@inlinable public func f() -> Swift.Int {\n  return 1\n}\n"

@@ -33,7 +33,7 @@ use Rattle.evo_tree.specs.declared.declaration.DeclKind.{DeclKind, DeclKind-F, r
 use Rattle.evo_tree.specs.declared.declaration.DeclKind.TheOpen as de
 use Rattle.evo_tree.specs.declared.module.Item.{Item}
 use Rattle.evo_tree.specs.declared.module.Item.TheVariants as item
-use Rattle.evo_tree.specs.declared.module.Module.{Module}
+use Rattle.evo_tree.specs.declared.module.ModuleTree.{ModuleTree}
 
 -- the first place of a text
 abbrev pub origin : Place
@@ -228,9 +228,9 @@ abbrev pub bare_item : Item → Item
 bare_item (item.Decl d) = item.Decl (bare_decl d)
 bare_item (item.Stmt s) = item.Stmt (bare_stmt s)
 
-abbrev pub bare_module : Module → Module
+abbrev pub bare_module : ModuleTree → ModuleTree
 bare_module m = record m { imports = map bare_identifier m.imports; items = map bare_item m.items }
 
 -- the trees are the same but for places
-abbrev pub Same : Module → Module → Type 0
+abbrev pub Same : ModuleTree → ModuleTree → Type 0
 Same m n = bare_module m ≡ bare_module n

@@ -51,7 +51,7 @@ use Rattle.evo_tree.specs.declared.module.Form.{Form}
 use Rattle.evo_tree.specs.declared.module.Form.TheVariants as form
 use Rattle.evo_tree.specs.declared.module.Item.{Item}
 use Rattle.evo_tree.specs.declared.module.Item.TheVariants as item
-use Rattle.evo_tree.specs.declared.module.Module.{Module}
+use Rattle.evo_tree.specs.declared.module.ModuleTree.{ModuleTree}
 
 abbrev pub Text : Type 0
 Text = List ℕ
@@ -380,5 +380,5 @@ abbrev pub first_lines : Form → Text → Option Release → Text
 first_lines form.Interface name r = optional (head_text name) r
 first_lines f name r = []
 
-abbrev pub canonical_text : Module → Text
+abbrev pub canonical_text : ModuleTree → Text
 canonical_text m = first_lines m.form m.name m.release ++ flat_map import_text m.imports ++ flat_map item_text m.items

@@ -8,3 +8,4 @@ pub mod Canonical
 pub mod Statements
 pub mod Declarations
 pub mod Modules
+pub mod Spelled

@@ -23,7 +23,7 @@ use Rattle.evo_tree.specs.declared.module.Form.{Form}
 use Rattle.evo_tree.specs.declared.module.Form.TheVariants as form
 use Rattle.evo_tree.specs.declared.module.Item.{Item}
 use Rattle.evo_tree.specs.declared.module.Item.TheVariants as item
-use Rattle.evo_tree.specs.declared.module.Module.{Module}
+use Rattle.evo_tree.specs.declared.module.ModuleTree.{ModuleTree}
 use Rattle.evo_tree.specs.declared.module.ModulePart.{ModulePart}
 use Rattle.evo_tree.specs.declared.module.ModulePart.TheVariants as part
 use Rattle.evo_tree.specs.declared.module.PartSpot.{PartSpot}
@@ -116,7 +116,7 @@ abbrev pub nesting : ℕ
 nesting = 64
 
 -- the text, read in this form, is this module: it is cut into tokens which spell its parts
-pub record Spells (text : List ℕ) (f : Form) (m : Module) : Type 0 where
+pub record Spells (text : List ℕ) (f : Form) (m : ModuleTree) : Type 0 where
   pub tokens : List Token
   pub cut : Cut text tokens
   pub parts : List ModulePart

@@ -17,7 +17,7 @@ use Rattle.evo_tree.specs.declared.declaration.DeclKind.{DeclKind-F}
 use Rattle.evo_tree.specs.declared.declaration.DeclKind.TheOpen as de
 use Rattle.evo_tree.specs.declared.module.Item.{Item}
 use Rattle.evo_tree.specs.declared.module.Item.TheVariants as item
-use Rattle.evo_tree.specs.declared.module.Module.{Module}
+use Rattle.evo_tree.specs.declared.module.ModuleTree.{ModuleTree}
 
 abbrev pub counts : List ℕ → ℕ
 counts ns = sum_by (λ n. n) ns
@@ -93,5 +93,5 @@ abbrev pub item_nodes : Item → ℕ
 item_nodes (item.Decl d) = decl_nodes d
 item_nodes (item.Stmt s) = stmt_nodes s
 
-abbrev pub nodes : Module → ℕ
+abbrev pub nodes : ModuleTree → ℕ
 nodes m = sum_by item_nodes m.items

@@ -1,9 +1,9 @@
-//! Copies of modules.
+//! Copies of the trees of modules.
 
 ghost use Rattle.std.specs.Prelude.{◌≡◌, IfOk};
 
 use crate::copy::{Copied, copy_list};
-use crate::module::{Form, Item, Module};
+use crate::module::{Form, Item, ModuleTree};
 use std::alloc::{AllocError, Global};
 
 impl Form {
@@ -37,12 +37,12 @@ impl Copied for Item {
     }
 }
 
-impl Module {
-    /// An equal module.
-    pub fn copy(&self, alloc: Global) -> Result<Module, AllocError>
+impl ModuleTree {
+    /// An equal tree.
+    pub fn copy(&self, alloc: Global) -> Result<ModuleTree, AllocError>
         ensures { IfOk result (λ copy. copy ≡ self.now) }
     {
-        Ok(Module {
+        Ok(ModuleTree {
             form: self.form.copy(alloc)?,
             name: self.name.copy(alloc)?,
             release: self.release,

@@ -17,6 +17,7 @@ mod same_module;
 mod same_name;
 mod same_statement;
 mod scope;
+mod spelled;
 mod statement;
 mod terminal;
 
@@ -25,10 +26,11 @@ pub use declaration::{
     ModifierKind, NominalKind, Parameter, ParameterLabel, Payload, Release, Requirement,
 };
 pub use expression::{Argument, Expr, InfixOperator, Member, Operand, PrefixOperator};
-pub use module::{Form, Item, Module, ModulePart, PartSpot, SourceFault};
+pub use module::{Form, Item, ModulePart, ModuleTree, PartSpot, SourceFault};
 pub use name::{Identifier, TypeName};
 pub use same_module::same;
 pub use scope::Scope;
+pub use spelled::Module;
 pub use statement::{
     AssignmentOperator, Binding, Block, Branch, Clause, ClauseLabel, Introducer, Pattern, Stmt,
 };

@@ -5,7 +5,8 @@ ghost use Rattle.evo_tree.specs.Bare.{Same, bare_item};
 
 use crate::compared::{Compared, both, same_list};
 use crate::declaration::Release;
-use crate::module::{Form, Item, Module};
+use crate::module::{Form, Item, ModuleTree};
+use crate::spelled::Module;
 
 fn same_form(a: &Form, b: &Form) -> bool
     ensures { IsTrue result ↔ (a.now ≡ b.now) }
@@ -55,18 +56,30 @@ impl Compared for Item {
     }
 }
 
-/// Whether both are the same but for places. It takes no memory.
+impl ModuleTree {
+    /// Whether both are the same but for places. It takes no memory.
+    pub fn same(&self, other: &ModuleTree) -> bool
+        ensures { IsTrue result ↔ Same self.now other.now }
+    {
+        both(
+            both(
+                same_form(&self.form, &other.form),
+                both(
+                    self.name.same(&other.name),
+                    same_release(self.release, other.release),
+                ),
+            ),
+            both(
+                same_list(&self.imports, &other.imports),
+                same_list(&self.items, &other.items),
+            ),
+        )
+    }
+}
+
+/// Whether both modules are the same but for places. It takes no memory.
 pub fn same(a: &Module, b: &Module) -> bool
     ensures { IsTrue result ↔ Same a.now b.now }
 {
-    both(
-        both(
-            same_form(&a.form, &b.form),
-            both(a.name.same(&b.name), same_release(a.release, b.release)),
-        ),
-        both(
-            same_list(&a.imports, &b.imports),
-            same_list(&a.items, &b.items),
-        ),
-    )
+    a.tree().same(b.tree())
 }

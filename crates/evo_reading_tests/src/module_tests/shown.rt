@@ -599,14 +599,15 @@ fn show_item(out: &mut String, item: &Item, whole: bool) -> Result<(), Fail> {
 
 /// The imports and the items of a module.
 pub fn shown(alloc: Global, module: &Module, whole: bool) -> Result<String, Fail> {
+    let tree = module.tree();
     let mut out = String::new(alloc);
     let mut mark = "";
-    for import in module.imports.as_slice() {
+    for import in tree.imports.as_slice() {
         out.push_str(mark)?;
         show_named(&mut out, "import ", import)?;
         mark = "; ";
     }
-    for item in module.items.as_slice() {
+    for item in tree.items.as_slice() {
         out.push_str(mark)?;
         show_item(&mut out, item, whole)?;
         mark = "; ";

@@ -1,0 +1,5 @@
+pub mod Steps
+pub mod Lists
+pub mod ExpressionTexts
+pub mod StatementTexts
+pub mod DeclarationTexts
