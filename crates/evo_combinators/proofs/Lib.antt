@@ -8,7 +8,6 @@ pub mod RunTurns
 pub mod GuardDeeper
 pub mod FilterLaws
 pub mod Entered
-pub mod Copies
 pub mod Sequences
 pub mod Attempts
 pub mod TriesTurns

@@ -1,4 +1,4 @@
--- What holds of each library and client that a text spells.
+-- What holds of each library and client that is a module of the first form.
 use Rattle.std.specs.Prelude.{◌^◌, ◌<◌, List, All}
 use Rattle.evo_first_form.specs.declared.Function.{Function}
 use Rattle.evo_first_form.specs.declared.Term.{Term}

@@ -2,7 +2,7 @@
 use Rattle.std.proofs.Common.{◌≡◌, ℕ, List, [], ◌∷◌, ◌++◌, map, Bool, codes, Option, Some, None, refl, sym, ◌∙◌, ap, ap₂}
 use Rattle.std.specs.Fmt.{decimal}
 use Rattle.evo_base.specs.declared.place.Place.{Place}
-use Rattle.evo_combinators.specs.Copies.{All_like}
+use Rattle.evo_round_trip.proofs.Alike.{All_like}
 use Rattle.evo_tree.specs.declared.name.Identifier.{Identifier}
 use Rattle.evo_tree.specs.declared.expression.Expr.{Expr, Expr-F, out-Expr, roll-Expr, map-Expr, fold_out-Expr}
 use Rattle.evo_tree.specs.declared.expression.Expr.TheOpen as f

@@ -1,3 +1,4 @@
+pub mod Alike
 pub mod Written
 pub mod Matching
 pub mod FirstCharacters

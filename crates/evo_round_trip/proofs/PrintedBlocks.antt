@@ -4,7 +4,7 @@ use Rattle.std.specs.Prelude.{◌==◌, not}
 use Rattle.std.specs.List.{flat_map}
 use Rattle.evo_base.specs.declared.place.Place.{Place}
 use Rattle.evo_combinators.specs.Guard.{On}
-use Rattle.evo_combinators.specs.Copies.{All_like}
+use Rattle.evo_round_trip.proofs.Alike.{All_like}
 use Rattle.evo_tree.specs.declared.statement.Stmt.{Stmt}
 use Rattle.evo_tree.specs.declared.terminal.Terminal.TheVariants as t
 use Rattle.evo_tree.specs.Terminals.{number_of}

@@ -3,7 +3,7 @@ use Rattle.std.proofs.Common.{◌≡◌, ℕ, ◌+◌, List, [], ◌∷◌, ◌+
 use Rattle.std.specs.List.{flat_map}
 use Rattle.evo_base.specs.declared.place.Place.{Place}
 use Rattle.evo_combinators.specs.Guard.{Run}
-use Rattle.evo_combinators.specs.Copies.{All_like}
+use Rattle.evo_round_trip.proofs.Alike.{All_like}
 use Rattle.evo_tree.specs.declared.statement.ClauseLabel.{ClauseLabel}
 use Rattle.evo_tree.specs.declared.statement.ClauseLabel.TheVariants as label
 use Rattle.evo_tree.specs.declared.statement.Clause.{Clause, Clause-F, out-Clause, roll-Clause, map-Clause, fold_out-Clause, out-roll-Clause}

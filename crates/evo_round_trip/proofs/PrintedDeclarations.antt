@@ -4,7 +4,7 @@ use Rattle.std.specs.Prelude.{◌&&◌, not}
 use Rattle.std.specs.List.{flat_map}
 use Rattle.evo_base.specs.declared.place.Place.{Place}
 use Rattle.evo_combinators.specs.Guard.{Run}
-use Rattle.evo_combinators.specs.Copies.{All_like}
+use Rattle.evo_round_trip.proofs.Alike.{All_like}
 use Rattle.evo_tree.specs.declared.declaration.Attr.{Attr}
 use Rattle.evo_tree.specs.declared.declaration.AttrKind.{AttrKind}
 use Rattle.evo_tree.specs.declared.declaration.Modifier.{Modifier}

@@ -2,7 +2,7 @@
 use Rattle.std.proofs.Common.{◌≡◌, List, [], ◌∷◌, ◌++◌, Bool, true, false, codes, refl, sym, ◌∙◌, ap, ap₂, append_assoc, append-nil, Option}
 use Rattle.std.specs.List.{flat_map}
 use Rattle.evo_combinators.specs.Rule.{Only, Led, Then}
-use Rattle.evo_combinators.specs.Copies.{All_like}
+use Rattle.evo_round_trip.proofs.Alike.{All_like}
 use Rattle.evo_tree.specs.declared.expression.InfixOperator.{InfixOperator}
 use Rattle.evo_tree.specs.declared.expression.Expr.{Expr}
 use Rattle.evo_tree.specs.declared.expression.Expr.TheVariants as e

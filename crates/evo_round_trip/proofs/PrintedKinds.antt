@@ -3,7 +3,7 @@ use Rattle.std.proofs.Common.{◌≡◌, ℕ, List, [], ◌∷◌, Bool, true, f
 use Rattle.std.specs.List.{flat_map}
 use Rattle.evo_base.specs.declared.place.Place.{Place}
 use Rattle.evo_combinators.specs.Rule.{Only, Led, Then}
-use Rattle.evo_combinators.specs.Copies.{All_like}
+use Rattle.evo_round_trip.proofs.Alike.{All_like}
 use Rattle.evo_tree.specs.declared.declaration.Attr.{Attr}
 use Rattle.evo_tree.specs.declared.declaration.AttrKind.{AttrKind}
 use Rattle.evo_tree.specs.declared.declaration.DeclKind.{DeclKind}

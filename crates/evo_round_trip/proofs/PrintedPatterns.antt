@@ -5,7 +5,7 @@ use Rattle.std.specs.Option.{option_map}
 use Rattle.std.specs.Fmt.{decimal}
 use Rattle.evo_base.specs.declared.place.Place.{Place}
 use Rattle.evo_combinators.specs.Rule.{Only, Led, One, Then}
-use Rattle.evo_combinators.specs.Copies.{All_like}
+use Rattle.evo_round_trip.proofs.Alike.{All_like}
 use Rattle.evo_tree.specs.declared.name.Identifier.{Identifier}
 use Rattle.evo_tree.specs.declared.name.TypeName.{TypeName}
 use Rattle.evo_tree.specs.declared.statement.Binding.{Binding}

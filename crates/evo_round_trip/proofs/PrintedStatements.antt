@@ -7,7 +7,7 @@ use Rattle.evo_base.specs.declared.place.Place.{Place}
 use Rattle.evo_base.specs.declared.token.TokenKind.TheVariants as kind
 use Rattle.evo_combinators.specs.Rule.{Only, Nothing, Led, Then}
 use Rattle.evo_combinators.specs.Guard.{On, Run}
-use Rattle.evo_combinators.specs.Copies.{All_like}
+use Rattle.evo_round_trip.proofs.Alike.{All_like}
 use Rattle.evo_tree.specs.declared.name.Identifier.{Identifier}
 use Rattle.evo_tree.specs.declared.name.TypeName.{TypeName}
 use Rattle.evo_tree.specs.declared.expression.Expr.{Expr, Expr-F, out-Expr, map-Expr, out-roll-Expr}

@@ -3,7 +3,7 @@ use Rattle.std.proofs.Common.{◌≡◌, ℕ, zero, suc, List, [], ◌∷◌, �
 use Rattle.std.specs.List.{flat_map}
 use Rattle.evo_combinators.specs.Rule.{Only, Nothing, Led, Or, Then, Many}
 use Rattle.evo_combinators.specs.Guard.{On, Run}
-use Rattle.evo_combinators.specs.Copies.{All_like}
+use Rattle.evo_round_trip.proofs.Alike.{All_like}
 use Rattle.evo_tree.specs.Pieces.{Piece}
 use Rattle.evo_tree.specs.Expressions.{Rule, Nested}
 use Rattle.evo_round_trip.proofs.Written.{Written, joined, is_none, is_gap, breaks, leads, IsToken, Sound}

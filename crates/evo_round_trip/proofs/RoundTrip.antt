@@ -7,7 +7,7 @@ use Rattle.std.specs.Str.{IsUtf8, chars, encode_utf8_all}
 use Rattle.std.proofs.lemmas.Str.{chars-append, encodes-chars, IsUtf8-append}
 use Rattle.std.proofs.lemmas.Bool.Decides.{Decides-eqb}
 use Rattle.evo_combinators.specs.Guard.{Run}
-use Rattle.evo_combinators.specs.Copies.{All_like}
+use Rattle.evo_round_trip.proofs.Alike.{All_like}
 use Rattle.evo_lex.specs.Cut.{CutFrom, origin, beyond}
 use Rattle.evo_lex.specs.Identifier.{IsIdentifier}
 use Rattle.evo_lex.proofs.Identifiers.{identifier_lacks}
