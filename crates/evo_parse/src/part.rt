@@ -14,8 +14,9 @@ ghost use Rattle.evo_parse.specs.Contract.{all_of, is_client as the_client};
 
 use evo_base::List;
 use evo_combinators::ReadError;
-use evo_parse_decl::{begins_declaration, declaration, mark_if, starts_below};
+use evo_parse_decl::{begins_declaration, declaration, starts_below};
 use evo_parse_expr::Cursor;
+use evo_parse_header::mark_if;
 use evo_parse_stmt::{is_refusal, statement};
 use evo_tree::{Decl, Form, Identifier, Item, ModulePart, PartSpot, Stmt, Terminal};
 use std::alloc::{AllocError, Global};

@@ -30,9 +30,9 @@ use Rattle.evo_combinators.proofs.Nesting.{nest_refuse, nest_bar, nest_choose, d
 use Rattle.evo_combinators.proofs.NestingTries.{nest_made}
 use Rattle.evo_parse_expr.proofs.Nesting.{May, Nests}
 use Rattle.evo_combinators.proofs.NestingRuns.{nest_ext}
-use Rattle.evo_parse_decl.proofs.Sets.{Set, these, but, In, into, none_holds, Ends, Ends_or_brace}
-use Rattle.evo_parse_decl.proofs.Parses.{Test, Chooses, Parses, parses_pure, parses_then, parses_map, parses_led, parses_opens, parses_maybe, quiet, opening, parses_alt, chooses_nothing, parses_before}
-use Rattle.evo_parse_decl.proofs.Tests.{a_piece, mark_test, word_test, is_number, mark_is, is_marked, when_some}
+use Rattle.evo_parse_header.proofs.Sets.{Set, these, but, In, into, none_holds, Ends, Ends_or_brace}
+use Rattle.evo_parse_header.proofs.Parses.{Chooses, Parses, parses_pure, parses_then, parses_map, parses_led, parses_opens, quiet, opening, parses_alt, chooses_nothing, parses_before}
+use Rattle.evo_parse_header.proofs.Tests.{a_piece, mark_test, word_test, is_number, mark_is, is_marked, when_some}
 use Rattle.evo_lex.specs.Front.{when}
 use Rattle.evo_parse_decl.proofs.Unless.{right_unless}
 use Rattle.evo_parse_decl.proofs.Prefixes.{goes_end, goes_shallow, goes_through, goes_under, deep_within}

@@ -32,7 +32,7 @@ use Rattle.evo_tree.specs.declared.module.ModulePart.TheVariants.{Import as impo
 use Rattle.evo_tree.specs.declared.module.PartSpot.{PartSpot}
 use Rattle.evo_tree.specs.declared.module.PartSpot.TheVariants.{Leading as leading, Further as further}
 use Rattle.evo_tree.specs.Modules.{after_part}
-use Rattle.evo_parse_decl.proofs.Parses.{Parses, parses_led, parses_pure, skipped, never}
+use Rattle.evo_parse_header.proofs.Parses.{Parses, parses_led, parses_pure, skipped, never}
 use Rattle.evo_tree.specs.Modules as grammar
 use Rattle.evo_parse_expr.specs.Read.{Reader}
 use Rattle.evo_combinators.proofs.Nesting.{nest_by, nest_choose, nest_quiet}
@@ -50,15 +50,16 @@ use Rattle.evo_combinators.proofs.FilterLaws.{right_filter}
 use Rattle.evo_combinators.proofs.Attempts.{right_tries, deeper_tries}
 use Rattle.evo_parse_stmt.proofs.Family.{laws, stmt_grammar, nest_stmt}
 use Rattle.evo_parse_decl.specs.Closed.{Block_at, block_at}
-use Rattle.evo_parse_decl.specs.Read.{begins_top, is_modifier, next}
+use Rattle.evo_parse_header.specs.Read.{is_modifier}
+use Rattle.evo_parse_decl.specs.Read.{begins_top, next}
 use Rattle.evo_parse_decl.specs.ReadModules as read
-use Rattle.evo_parse_decl.proofs.Sets.{Set, these, but, In, among, into, none_in, none_holds, among_cons}
+use Rattle.evo_parse_header.proofs.Sets.{these, but, In, among, into, none_in, none_holds, among_cons}
 use Rattle.evo_parse_decl.proofs.ModuleParts.{parses_declared, End}
 use Rattle.evo_parse_decl.proofs.Concrete.{blocks}
-use Rattle.evo_parse_decl.proofs.Tests.{nominal_test, identifier_test, is_number, mark_is, modifier_numbers}
-use Rattle.evo_parse_decl.proofs.Productions.{Words, is_modifier_word}
+use Rattle.evo_parse_header.proofs.Tests.{nominal_test, identifier_test, is_number, mark_is, modifier_numbers}
+use Rattle.evo_parse_header.proofs.Productions.{Words, is_modifier_word}
 use Rattle.evo_parse_decl.proofs.Members.{or_rest}
-use Rattle.evo_parse_decl.proofs.Top.{Ends_of, parses_top_declaration, begins_top_at, takes_top_at, is_nominal}
+use Rattle.evo_parse_decl.proofs.Top.{parses_top_declaration, begins_top_at, takes_top_at, is_nominal}
 
 -- what a declaration at the top level begins with
 abbrev Tops : List ℕ

@@ -22,8 +22,8 @@ use Rattle.evo_parse_stmt.specs.Read.{block, block_of, inner_of}
 use Rattle.evo_parse_expr.specs.Read.{Reader}
 use Rattle.evo_parse_expr.proofs.Right.{named_expr}
 use Rattle.evo_parse_stmt.proofs.Family.{block_grammar, nest_block}
-use Rattle.evo_parse_decl.proofs.Sets.{Set, these, but, In}
-use Rattle.evo_parse_decl.proofs.Tests.{mark_is, is_marked, get_utf8, a_piece}
+use Rattle.evo_parse_header.proofs.Sets.{but, In}
+use Rattle.evo_parse_header.proofs.Tests.{mark_is, is_marked, get_utf8, a_piece}
 use Rattle.evo_parse_decl.proofs.Accessors.{Blocks}
 use Rattle.evo_parse_decl.specs.Closed.{Block_at, block_at}
 

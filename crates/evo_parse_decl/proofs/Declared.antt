@@ -26,16 +26,18 @@ use Rattle.evo_tree.specs.Expressions.{Rule}
 use Rattle.evo_tree.specs.Declarations as grammar
 use Rattle.evo_tree.specs.declared.declaration.AttrKind.TheVariants as attr
 use Rattle.evo_tree.specs.Declarations.{attribute, declaration, modifier_word, Declaration_of, Lines, Next, Below}
+use Rattle.evo_parse_header.specs.Read as header
 use Rattle.evo_parse_decl.specs.Read as read
 use Rattle.evo_parse_expr.specs.Read.{Reader}
 use Rattle.evo_combinators.proofs.Nesting.{nest_pure, nest_by, nest_choose}
 use Rattle.evo_parse_expr.proofs.Nesting.{May}
 use Rattle.evo_combinators.proofs.NestingRuns.{nest_filter}
-use Rattle.evo_parse_decl.specs.Read.{begins_declaration, is_modifier, goes_on}
-use Rattle.evo_parse_decl.proofs.Sets.{Set, these, but, In, included, contains, among, Ends, none_holds, into}
-use Rattle.evo_parse_decl.proofs.Parses.{Test, Chooses, Parses, parses_pure, parses_as, parses_before, parses_then, parses_map, parses_led, parses_alt, chooses_alt, chooses_nothing, parses_run}
-use Rattle.evo_parse_decl.proofs.Tests.{a_piece, mark_test, word_test, is_number, mark_is, is_marked, modifier_numbers}
-use Rattle.evo_parse_decl.proofs.Productions.{Kind_words, Words, parses_attributes, parses_modifiers, parses_attribute, modifier_is, is_modifier_word}
+use Rattle.evo_parse_header.specs.Read.{is_modifier}
+use Rattle.evo_parse_decl.specs.Read.{begins_declaration, goes_on}
+use Rattle.evo_parse_header.proofs.Sets.{Set, these, In, included, among, Ends, none_holds, into}
+use Rattle.evo_parse_header.proofs.Parses.{Chooses, Parses, parses_then, parses_map, parses_alt, parses_run}
+use Rattle.evo_parse_header.proofs.Tests.{a_piece, mark_test, is_number, mark_is, is_marked, modifier_numbers}
+use Rattle.evo_parse_header.proofs.Productions.{Kind_words, Words, parses_attributes, parses_modifiers, modifier_is, is_modifier_word}
 use Rattle.evo_parse_decl.proofs.Prefixes.{takes_begun}
 
 -- what a declaration begins with
@@ -63,12 +65,12 @@ run_none : {B State : Type 0} (g : State → Piece → Bool) (q : State → Read
 unfolding run
 run_none g q next s u us isnt = ap (λ c. cond c ((q s >>= (λ b. run_from g q next (length us) (next s b) >>= (λ bs. pure (b ∷ bs)))) (u ∷ us)) (Ok ([], u ∷ us))) (starts_is (g s) (u ∷ us) ∙ isnt)
 
-attributes_none : (d : ℕ) (u : Piece) (us : List Piece) → is_terminal t.At u ≡ false → read.attributes d (u ∷ us) ≡ Ok ([], u ∷ us)
-unfolding read.attributes
-attributes_none d u us isnt = run_none (λ _. is_terminal t.At) (read.attribute_at d) (λ attrs a. attrs ++ a ∷ []) [] u us isnt
+attributes_none : (d : ℕ) (u : Piece) (us : List Piece) → is_terminal t.At u ≡ false → header.attributes d (u ∷ us) ≡ Ok ([], u ∷ us)
+unfolding header.attributes
+attributes_none d u us isnt = run_none (λ _. is_terminal t.At) (header.attribute_at d) (λ attrs a. attrs ++ a ∷ []) [] u us isnt
 
-modifiers_none : (u : Piece) (us : List Piece) → is_modifier [] u ≡ false → read.modifiers (u ∷ us) ≡ Ok ([], u ∷ us)
-unfolding read.modifiers
+modifiers_none : (u : Piece) (us : List Piece) → is_modifier [] u ≡ false → header.modifiers (u ∷ us) ≡ Ok ([], u ∷ us)
+unfolding header.modifiers
 modifiers_none u us isnt = run_none is_modifier (λ ms. one (modifier_word ms)) (λ ms m. ms ++ m ∷ []) [] u us isnt
 
 attributes_go : (d : ℕ) (u : Piece) → is_terminal t.At u ≡ true → Goes (grammar.Attributes d) (u ∷ [])
@@ -87,7 +89,7 @@ module _ (s : Scope) (St : Set) (K : ℕ → List Attr → Rule (Place × List D
   parses_behind_modifiers attrs ms = parses_map (λ w. map (declaration s attrs ms w.0) w.1) (fits attrs)
 
   parses_behind_attributes : (attrs : List Attr) → Parses (these (100 ∷ Words ++ Kind_words)) St
-      (λ d. Then grammar.Modifiers (λ ms. Then (K d attrs) (λ w. Only (map (declaration s attrs ms w.0) w.1)))) (λ d. read.modifiers >>= (λ ms. kind d attrs >>= (λ w. pure (map (declaration s attrs ms w.0) w.1))))
+      (λ d. Then grammar.Modifiers (λ ms. Then (K d attrs) (λ w. Only (map (declaration s attrs ms w.0) w.1)))) (λ d. header.modifiers >>= (λ ms. kind d attrs >>= (λ w. pure (map (declaration s attrs ms w.0) w.1))))
   parses_behind_attributes attrs = parses_then refl parses_modifiers (parses_behind_modifiers attrs)
 
   pub parses_declaration : Parses (these (74 ∷ 100 ∷ Words ++ Kind_words)) St (λ d. Declaration_of s d (K d)) (λ d. read.declaration_of s d (kind d))
@@ -107,10 +109,10 @@ module _ (s : Scope) (St : Set) (K : ℕ → List Attr → Rule (Place × List D
   pub takes_declaration : (d : ℕ) (u : Piece) → begins_declaration g u ≡ true → Takes (read.declaration_of s d (kind d)) u
   unfolding read.declaration_of
   takes_declaration d u is = elim (which (is_terminal t.At u)) [
-    | inl at ↦ takes_begun (In (these (100 ∷ Words ++ Kind_words))) (In St) (grammar.Attributes d) (grammar.Attributes (suc d)) _ _ (read.attributes d) _ (λ n. parses_attributes.chooses.right d n)
+    | inl at ↦ takes_begun (In (these (100 ∷ Words ++ Kind_words))) (In St) (grammar.Attributes d) (grammar.Attributes (suc d)) _ _ (header.attributes d) _ (λ n. parses_attributes.chooses.right d n)
         (λ attrs n. (parses_behind_attributes attrs).chooses.right d n) u (attributes_go d u at)
     | inr elsewhere ↦ λ us bad. later (or_rest (is_terminal t.At u) _ elsewhere is) us
-        (sym (ap (λ o. and_then o (λ attrs. read.modifiers >>= (λ ms. kind d attrs >>= (λ w. pure (map (declaration s attrs ms w.0) w.1))))) (attributes_none d u us elsewhere)) ∙ bad)
+        (sym (ap (λ o. and_then o (λ attrs. header.modifiers >>= (λ ms. kind d attrs >>= (λ w. pure (map (declaration s attrs ms w.0) w.1))))) (attributes_none d u us elsewhere)) ∙ bad)
   ]
     where
       no_kind : (x : Place × List DeclKind) → K d [] [] x → ⊥
@@ -120,9 +122,9 @@ module _ (s : Scope) (St : Set) (K : ℕ → List Attr → Rule (Place × List D
       last is = takes_then (In St) (λ x. Unit {0}) (K d []) (K (suc d) []) (λ w. Only (map (declaration s [] [] w.0) w.1)) (λ w. Only (map (declaration s [] [] w.0) w.1)) (kind d []) _ u
           (λ n. (fits []).chooses.right d n) (λ w n. right_pure n (λ x. Unit {0}) tt (map (declaration s [] [] w.0) w.1)) no_kind (takes d u is)
 
-      later : (is_modifier [] u || g u) ≡ true → Takes (read.modifiers >>= (λ ms. kind d [] >>= (λ w. pure (map (declaration s [] ms w.0) w.1)))) u
+      later : (is_modifier [] u || g u) ≡ true → Takes (header.modifiers >>= (λ ms. kind d [] >>= (λ w. pure (map (declaration s [] ms w.0) w.1)))) u
       later is = elim (which (is_modifier [] u)) [
-        | inl modifier ↦ takes_begun (In (these (100 ∷ Kind_words))) (In St) grammar.Modifiers grammar.Modifiers _ _ read.modifiers _ (λ n. parses_modifiers.chooses.right 0 n)
+        | inl modifier ↦ takes_begun (In (these (100 ∷ Kind_words))) (In St) grammar.Modifiers grammar.Modifiers _ _ header.modifiers _ (λ n. parses_modifiers.chooses.right 0 n)
             (λ ms n. (parses_behind_modifiers [] ms).chooses.right d n) u (modifiers_go u modifier)
         | inr elsewhere ↦ λ us bad. last (or_rest (is_modifier [] u) (g u) elsewhere is) us
             (sym (ap (λ o. and_then o (λ ms. kind d [] >>= (λ w. pure (map (declaration s [] ms w.0) w.1)))) (modifiers_none u us elsewhere)) ∙ bad)

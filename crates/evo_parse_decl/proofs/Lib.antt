@@ -1,6 +1,3 @@
-pub mod Sets
-pub mod Parses
-pub mod Tests
 pub mod Unless
 pub mod Prefixes
 pub mod Accessors

@@ -30,14 +30,15 @@ use Rattle.evo_tree.specs.Declarations as grammar
 use Rattle.evo_tree.specs.Declarations.{only_if, is_protocol, is_enum, has_body, may_stand, may_be_stored, scope_of, declaration, one_kind, nominal_word, modifier_word, Lines, Next, Below}
 use Rattle.evo_parse_decl.specs.Read as read
 use Rattle.evo_parse_expr.specs.Read.{Reader}
-use Rattle.evo_parse_decl.specs.Read.{begins_kind, begins_member, begins_top, begins_top_kind, begins_declaration, is_modifier}
-use Rattle.evo_parse_decl.proofs.Sets.{Set, these, but, In, included, contains, among, Ends, Ends_or_brace, none_holds, into}
-use Rattle.evo_parse_decl.proofs.Parses.{Test, Chooses, Parses, parses_pure, parses_as, parses_before, parses_then, parses_map, parses_led, parses_opens, chooses_alt, chooses_alt_if, chooses_nothing, chooses_as, parses_run}
-use Rattle.evo_parse_decl.proofs.Tests.{mark_test, identifier_test, nominal_test, is_number, mark_is, is_marked, not_marked}
-use Rattle.evo_parse_decl.proofs.Productions.{Kind_words, Words, parses_type, parses_inherited, parses_header, parses_let, parses_alias, parses_associated, parses_cases, parses_attributes, parses_modifiers, parses_attribute, modifier_is, is_modifier_word}
+use Rattle.evo_parse_decl.specs.Read.{begins_kind}
+use Rattle.evo_parse_header.proofs.Sets.{Set, these, but, In, Ends, Ends_or_brace}
+use Rattle.evo_parse_header.proofs.Parses.{Chooses, Parses, parses_pure, parses_as, parses_before, parses_then, parses_map, parses_led, chooses_alt_if, chooses_nothing}
+use Rattle.evo_parse_header.proofs.Tests.{mark_test, identifier_test, mark_is, is_marked, not_marked}
+use Rattle.evo_parse_header.proofs.Productions.{Kind_words, parses_type, parses_header}
+use Rattle.evo_parse_header.proofs.Payloads.{parses_cases}
+use Rattle.evo_parse_decl.proofs.Productions.{parses_let, parses_alias, parses_associated}
 use Rattle.evo_parse_decl.proofs.Accessors.{Blocks, parses_block, parses_accessors}
 use Rattle.evo_combinators.proofs.Entered.{refused_within}
-use Rattle.evo_parse_decl.proofs.Prefixes.{takes_begun}
 
 abbrev Anything : Set
 Anything = but []

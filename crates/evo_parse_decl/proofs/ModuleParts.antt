@@ -36,10 +36,10 @@ use Rattle.evo_parse_expr.proofs.Nesting.{May, Nests}
 use Rattle.evo_combinators.proofs.NestingRuns.{nest_filter}
 use Rattle.evo_parse_decl.specs.Read.{next, begins_top}
 use Rattle.evo_parse_decl.specs.ReadModules as read
-use Rattle.evo_parse_decl.proofs.Sets.{Set, these, but, In, included, contains, among, Ends, into, included_refl}
-use Rattle.evo_parse_decl.proofs.Parses.{Test, Chooses, Parses, parses_pure, parses_before, parses_map, parses_led, parses_alt, chooses_alt_if, chooses_as}
-use Rattle.evo_parse_decl.proofs.Tests.{mark_test, identifier_test, is_number, mark_is}
-use Rattle.evo_parse_decl.proofs.Productions.{Kind_words, Words}
+use Rattle.evo_parse_header.proofs.Sets.{Set, these, but, In, included, contains, among, Ends, into, included_refl}
+use Rattle.evo_parse_header.proofs.Parses.{Chooses, Parses, parses_pure, parses_map, parses_led, parses_alt, chooses_alt_if, chooses_as}
+use Rattle.evo_parse_header.proofs.Tests.{mark_test, identifier_test, is_number, mark_is}
+use Rattle.evo_parse_header.proofs.Productions.{Kind_words, Words}
 use Rattle.evo_parse_decl.proofs.Accessors.{Blocks}
 use Rattle.evo_parse_decl.proofs.Declared.{Firsts}
 use Rattle.evo_parse_decl.proofs.Top.{Ends_of, parses_top_declaration, begins_top_at, numbers_of_top_at}

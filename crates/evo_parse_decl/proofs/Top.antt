@@ -28,11 +28,11 @@ use Rattle.evo_tree.specs.Declarations.{is_protocol, is_enum, may_stand, may_be_
 use Rattle.evo_parse_decl.specs.Read as read
 use Rattle.evo_parse_expr.specs.Read.{Reader}
 use Rattle.evo_parse_expr.proofs.Nesting.{Nests}
-use Rattle.evo_parse_decl.specs.Read.{begins_kind, begins_member, begins_top, begins_top_kind, begins_declaration}
-use Rattle.evo_parse_decl.proofs.Sets.{Set, these, but, In, included, contains, among, Ends, into}
-use Rattle.evo_parse_decl.proofs.Parses.{Test, Chooses, Parses, parses_pure, parses_as, parses_before, parses_then, parses_map, parses_led, parses_opens, chooses_alt, parses_alt, chooses_nothing}
-use Rattle.evo_parse_decl.proofs.Tests.{mark_test, identifier_test, nominal_test, is_number, mark_is, is_marked}
-use Rattle.evo_parse_decl.proofs.Productions.{Kind_words, Words, parses_type, parses_inherited, parses_header}
+use Rattle.evo_parse_decl.specs.Read.{begins_kind, begins_member, begins_top, begins_top_kind}
+use Rattle.evo_parse_header.proofs.Sets.{Set, these, but, In, included, contains, among, Ends, into}
+use Rattle.evo_parse_header.proofs.Parses.{Parses, parses_pure, parses_before, parses_then, parses_map, parses_led, parses_opens, chooses_alt, parses_alt, chooses_nothing}
+use Rattle.evo_parse_header.proofs.Tests.{mark_test, identifier_test, nominal_test, is_number, mark_is, is_marked}
+use Rattle.evo_parse_header.proofs.Productions.{Kind_words, Words, parses_type, parses_inherited, parses_header}
 use Rattle.evo_parse_decl.proofs.Accessors.{Blocks, parses_block}
 use Rattle.evo_parse_decl.proofs.Members.{which, or_left, or_right, or_rest, parses_function, parses_kind, begins_of_kind, takes_kind}
 use Rattle.evo_parse_decl.proofs.Declared.{Firsts, Entered, parses_declaration, begins_of_declaration, takes_declaration, numbers_of_declaration, parses_lines}

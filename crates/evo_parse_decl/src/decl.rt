@@ -3,11 +3,11 @@
 ghost use Rattle.std.specs.Prelude.{◌≡◌, ◌∷◌, [], ◌++◌, ℕ, List, Bool, IfOk, map, flat_map};
 ghost use Rattle.evo_tree.specs.Declarations as grammar;
 
-use crate::attribute::{ordered_attributes, ordered_modifiers, with_access};
-use crate::header::is_protocol;
 use crate::kind::Kinds;
-use crate::words::has_modifier;
 use evo_base::{List, Place};
+use evo_parse_header::{
+    has_modifier, is_protocol, ordered_attributes, ordered_modifiers, with_access,
+};
 use evo_tree::{Attr, Decl, DeclKind, Modifier, ModifierKind, Scope};
 use sqlite_items::Items;
 use std::alloc::{AllocError, Global};
@@ -26,6 +26,23 @@ fn has_access(scope: Scope, modifiers: &[Modifier], kind: &DeclKind) -> bool
     }
 }
 
+// The attributes and the modifiers of a declaration, as its tree has them.
+fn ordered(
+    alloc: Global,
+    attrs: &[Attr],
+    modifiers: &[Modifier],
+    place: Place,
+    wants: bool,
+) -> Result<(List<Attr>, List<Modifier>), AllocError>
+    ensures attrs { IfOk result (λ x. x.0 ≡ grammar.ordered_attributes attrs.now) }
+    ensures modifiers { IfOk result (λ x. x.1 ≡ grammar.with_access wants place (grammar.ordered_modifiers modifiers.now)) }
+{
+    let attrs = ordered_attributes(alloc, attrs)?;
+    let modifiers = ordered_modifiers(alloc, modifiers)?;
+    let modifiers = with_access(alloc, modifiers.as_slice(), place, wants)?;
+    Ok((attrs, modifiers))
+}
+
 fn declared(
     alloc: Global,
     scope: Scope,
@@ -37,9 +54,7 @@ fn declared(
     ensures { IfOk result (λ x. x ≡ grammar.declaration scope attrs.now modifiers.now place kind) }
 {
     let wants = has_access(scope, modifiers, &kind);
-    let attrs = ordered_attributes(alloc, attrs)?;
-    let ordered = ordered_modifiers(alloc, modifiers)?;
-    let modifiers = with_access(alloc, ordered.as_slice(), place, wants)?;
+    let (attrs, modifiers) = ordered(alloc, attrs, modifiers, place, wants)?;
     Ok(Decl {
         place,
         attrs,

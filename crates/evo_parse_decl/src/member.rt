@@ -9,13 +9,12 @@ ghost use Rattle.evo_parse_expr.specs.Read.{after};
 ghost use Rattle.evo_parse_decl.specs.Read as spec;
 ghost use Rattle.evo_parse_decl.specs.Closed.{block_at, member_at};
 
-use crate::attribute::{attributes, is_modifier, modifiers};
 use crate::decl::{all_declared, joined};
-use crate::header::{is_protocol, too_deep};
 use crate::kind::{is_enum, may_be_stored, may_stand, member_kind};
 use evo_base::List;
 use evo_combinators::ReadError;
 use evo_parse_expr::{Cursor, Lexeme};
+use evo_parse_header::{attributes, is_modifier, is_protocol, modifiers, too_deep};
 use evo_tree::{Decl, Scope, Terminal};
 use sqlite_items::Items;
 use std::alloc::Global;

@@ -7,9 +7,9 @@ ghost use Rattle.evo_parse_decl.specs.Read as spec;
 ghost use Rattle.evo_parse_decl.specs.Closed.{block_at};
 
 use crate::block::inner_block;
-use crate::header::too_deep;
 use evo_combinators::ReadError;
 use evo_parse_expr::{Cursor, Lexeme};
+use evo_parse_header::too_deep;
 use evo_parse_stmt::block;
 use evo_tree::{Accessors, Block, Terminal};
 use std::alloc::Global;

@@ -7,15 +7,15 @@ ghost use Rattle.evo_tree.specs.Declarations as grammar;
 ghost use Rattle.evo_parse_decl.specs.Read as spec;
 ghost use Rattle.evo_parse_decl.specs.Closed.{block_at};
 
-use crate::attribute::{attributes, is_modifier, modifiers};
 use crate::decl::all_declared;
-use crate::header::inherited;
 use crate::kind::{Kinds, one_kind, rest_of_function};
 use crate::member::members;
-use crate::words::{has_attribute, is_nominal, nominal_word};
 use evo_base::{List, Place};
 use evo_combinators::ReadError;
 use evo_parse_expr::{Cursor, Lexeme, type_name};
+use evo_parse_header::{
+    attributes, has_attribute, inherited, is_modifier, is_nominal, modifiers, nominal_word,
+};
 use evo_tree::{Attr, AttrKind, Decl, DeclKind, NominalKind, Scope, Terminal};
 use std::alloc::Global;
 

@@ -2,7 +2,7 @@ use Rattle.evo_combinators.proofs.Faults.{one_value}
 use Rattle.evo_tree.specs.Declarations.{IsDeclaration}
 use Rattle.evo_parse_decl.specs.Read.{top_declaration}
 use Rattle.evo_parse_decl.specs.Closed.{Block_at, block_at}
-use Rattle.evo_parse_decl.proofs.Sets.{In}
+use Rattle.evo_parse_header.proofs.Sets.{In}
 use Rattle.evo_parse_decl.proofs.Concrete.{blocks}
 use Rattle.evo_parse_decl.proofs.Top.{Ends_of, declarations_grammar}
 use Rattle.evo_parse_decl.proofs.laws.one_declaration.Goals as goal
