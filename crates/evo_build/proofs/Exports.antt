@@ -11,7 +11,7 @@ use Rattle.evo_build.specs.declared.object.Object.{Object}
 use Rattle.evo_build.specs.declared.linker.LinkFault.{LinkFault}
 use Rattle.evo_build.specs.declared.linker.LinkFault.TheVariants as fault
 use Rattle.evo_build.specs.Works.{linked, AreTimed, exports, AreExported, LinksWith}
-use Rattle.evo_build.specs.Linking.{Links, Checks, TableOf, Exports, IsMissing, StandsTwice, FitTogether}
+use Rattle.evo_build.specs.Linking.{Links, Checks, ChecksOwn, IsMissing, StandsTwice, FitTogether}
 use Rattle.evo_build.proofs.Images.{timed-append, twice_behind, not_distinct}
 
 -- whether the function at a place is exported
@@ -51,28 +51,12 @@ by_table (f ∷ fs) rest symbol = by (bytes_eq symbol f.symbol) (by_table fs res
     by true more = refl
     by false more = more ∙ behind f fs (position_of symbol (symbols_of fs ++ rest))
 
-module _ (theirs own : List Function) (needed imports : List (List ℕ)) where
-  -- the faults of the parts
-  pub own_fault : (e : LinkFault) → TableOf own (Err e) → Checks theirs own needed imports (Err e)
-  own_fault (fault.Twice symbol) h =
-      subst (StandsTwice symbol) (sym (map-append (λ (f : Function). f.symbol) theirs own)) (twice_behind symbol (symbols_of theirs) (symbols_of own) h)
-  own_fault (fault.Missing symbol) h = absurd h
-  own_fault fault.Memory h = tt
-
-  pub table_fault : (e : LinkFault) → TableOf (theirs ++ own) (Err e) → Checks theirs own needed imports (Err e)
-  table_fault (fault.Twice symbol) h = h
-  table_fault (fault.Missing symbol) h = absurd h
-  table_fault fault.Memory h = tt
-
-  pub needed_fault : (e : LinkFault) → Exports own needed (Err e) → Checks theirs own needed imports (Err e)
-  needed_fault (fault.Twice symbol) h = absurd h
-  needed_fault (fault.Missing symbol) h = inl h
-  needed_fault fault.Memory h = tt
-
-  pub imports_fault : (e : LinkFault) → Exports theirs imports (Err e) → Checks theirs own needed imports (Err e)
-  imports_fault (fault.Twice symbol) h = absurd h
-  imports_fault (fault.Missing symbol) h = inr (inl h)
-  imports_fault fault.Memory h = tt
+-- the faults of what a library needs
+pub own_fault : (theirs own : List Function) (needed imports : List (List ℕ)) (e : LinkFault) → ChecksOwn own needed (Err e) → Checks theirs own needed imports (Err e)
+own_fault theirs own needed imports (fault.Twice symbol) h =
+    subst (StandsTwice symbol) (sym (map-append (λ (f : Function). f.symbol) theirs own)) (twice_behind symbol (symbols_of theirs) (symbols_of own) h)
+own_fault theirs own needed imports (fault.Missing symbol) h = inl h
+own_fault theirs own needed imports fault.Memory h = tt
 
 -- the two parts of functions that stand behind one another
 pub first_part : (xs ys : List Function) (n : ℕ) → n ≡ length xs → take n (xs ++ ys) ≡ xs

@@ -38,6 +38,20 @@ Exports functions imports (Err (fault.Twice symbol)) = ⊥
 Exports functions imports (Err (fault.Missing symbol)) = IsMissing functions imports symbol
 Exports functions imports (Err fault.Memory) = Unit {0}
 
+-- What the library's functions need, the client's export, or why not.
+abbrev pub ChecksOwn : List Function → List (List ℕ) → Result (Unit {0}) LinkFault → Type 0
+ChecksOwn own needed (Ok x) = AreExported own needed
+ChecksOwn own needed (Err (fault.Twice symbol)) = StandsTwice symbol (symbols_of own)
+ChecksOwn own needed (Err (fault.Missing symbol)) = IsMissing own needed symbol
+ChecksOwn own needed (Err fault.Memory) = Unit {0}
+
+-- What the client's functions need, the library's export, and there is a top level among all symbols, or why not.
+abbrev pub ChecksAll : List Function → List (List ℕ) → List (List ℕ) → Result (Unit {0}) LinkFault → Type 0
+ChecksAll theirs symbols imports (Ok x) = AreExported theirs imports × IsSome (position_of start_symbol symbols)
+ChecksAll theirs symbols imports (Err (fault.Twice symbol)) = ⊥
+ChecksAll theirs symbols imports (Err (fault.Missing symbol)) = IsMissing theirs imports symbol ⊎ ((symbol ≡ start_symbol) × (position_of symbol symbols ≡ None))
+ChecksAll theirs symbols imports (Err fault.Memory) = Unit {0}
+
 -- Why functions of a library and of a client make no image: a symbol is defined twice, what one needs the other does not export, or
 -- there is no top level.
 abbrev pub IsLinkFault : List Function → List Function → List (List ℕ) → List (List ℕ) → LinkFault → Type 0

@@ -1,7 +1,7 @@
-ghost use Rattle.std.specs.Prelude.{◌≡◌, ◌++◌, [], IfOk, OnOk};
+ghost use Rattle.std.specs.Prelude.{◌≡◌, ◌∷◌, ◌++◌, [], IfOk, OnOk};
 ghost use Rattle.evo_first_form.specs.Copies.{copied_body};
 ghost use Rattle.evo_first_form.specs.Accepted.{IsAcceptedInterface, IsAcceptedClient};
-ghost use Rattle.evo_build.specs.Objects.{client_symbol, print_code, prints_code, most_terms as the_most, start_function as the_start, with_copy, copy_functions};
+ghost use Rattle.evo_build.specs.Objects.{client_symbol, print_code, prints_code, most_terms as the_most, start_function as the_start, with_copy, copy_functions, imports_of as the_imports};
 ghost use Rattle.evo_build.specs.Works.{IsClientObject, WorksWithEvery, AreTimed};
 
 use crate::code::{function_of, term_code};
@@ -122,6 +122,25 @@ fn copy_functions_of(
     Ok(functions)
 }
 
+// The object with these copies and the top level.
+fn object_with(
+    alloc: Global,
+    library: &Name,
+    view: &View<'_>,
+    prints: &[Print],
+    copies: &NameTable,
+) -> Result<Object, AllocError>
+    ensures functions { IfOk result (λ object. object.functions.items ≡ copy_functions library.now view.now copies.now ++ the_start (client_symbol library.now view.now) prints.now ∷ []) }
+    ensures imports { IfOk result (λ object. object.imports.items ≡ the_imports library.now view.now prints.now copies.now) }
+{
+    let mut functions = copy_functions_of(alloc, library, view, copies)?;
+    functions.push(start_function(alloc, library, view, prints)?)?;
+    Ok(Object {
+        imports: imports_of(alloc, library, view, prints, copies)?,
+        functions,
+    })
+}
+
 // The object of a client, with the copies that it reaches.
 fn client_object(
     alloc: Global,
@@ -133,13 +152,7 @@ fn client_object(
     ensures { IfOk result (IsClientObject interface.now prints.now) }
 {
     let copies = copies_needed(alloc, view, prints)?;
-    let library = &interface.name;
-    let mut functions = copy_functions_of(alloc, library, view, &copies)?;
-    functions.push(start_function(alloc, library, view, prints)?)?;
-    Ok(Object {
-        imports: imports_of(alloc, library, view, prints, &copies)?,
-        functions,
-    })
+    Ok(object_with(alloc, &interface.name, view, prints, &copies)?)
 }
 
 /// The object of a client that was accepted against the interface: its copies of the functions that clients

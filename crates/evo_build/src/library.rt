@@ -1,6 +1,6 @@
 ghost use Rattle.std.specs.Prelude.{◌≡◌, [], IfOk};
 ghost use Rattle.evo_first_form.specs.Interface.{is_visible as the_test};
-ghost use Rattle.evo_build.specs.Objects.{library_function as the_function};
+ghost use Rattle.evo_build.specs.Objects.{library_function as the_function, library_functions};
 ghost use Rattle.evo_build.specs.Works.{IsLibraryObject, AreTimed};
 
 use crate::code::function_of;
@@ -37,6 +37,23 @@ fn library_function(
     function_of(alloc, library, nothing, symbol, exported, &function.body)
 }
 
+// The functions of a library's object, in source order.
+fn built_functions(
+    alloc: Global,
+    library: &Name,
+    nothing: &View<'_>,
+    functions: &[evo_first_form::Function],
+) -> Result<Vec<Function>, AllocError>
+    requires { nothing.now ≡ [] }
+    ensures { IfOk result (λ built. built.items ≡ library_functions library.now functions.now) }
+{
+    let mut built = Vec::new(alloc);
+    for function in functions {
+        built.push(library_function(alloc, library, nothing, function)?)?;
+    }
+    Ok(built)
+}
+
 /// The object of a library: for each of its functions, in source order, one that takes a tick and gives the
 /// value of its body. Those that clients see are exported. It needs nothing of another object, and copies
 /// nothing. Only memory can fail.
@@ -49,12 +66,8 @@ pub fn build_library(
     ensures timed { IfOk result (λ o. AreTimed o.functions.items) }
 {
     let nothing = View::new(alloc, &[])?;
-    let mut built = Vec::new(alloc);
-    for function in functions {
-        built.push(library_function(alloc, library, &nothing, function)?)?;
-    }
     Ok(Object {
         imports: Vec::new(alloc),
-        functions: built,
+        functions: built_functions(alloc, library, &nothing, functions)?,
     })
 }

@@ -1,6 +1,6 @@
 ghost use Rattle.std.specs.Prelude.{◌≡◌, ◌++◌};
 ghost use Rattle.evo_machine.specs.Image.{symbols_of};
-ghost use Rattle.evo_build.specs.Linking.{Links, Checks, TableOf, BeginsWith, Exports};
+ghost use Rattle.evo_build.specs.Linking.{Links, Checks, ChecksOwn, ChecksAll, TableOf, BeginsWith, Exports};
 ghost use Rattle.evo_build.specs.Works.{AreTimed, exports as the_test};
 ghost use Rattle.evo_build.specs.declared.linker.LinkFault.TheVariants.{Memory};
 
@@ -83,6 +83,31 @@ fn check_exported(
     Ok(())
 }
 
+// Whether what a library needs is exported by the client's functions.
+fn check_own(alloc: Global, own: &[Function], needed: &[Symbol]) -> Result<(), LinkFault>
+    ensures { ChecksOwn own.now needed.now result }
+{
+    let symbols = table_of(alloc, own)?;
+    check_exported(alloc, &symbols, own, needed)
+}
+
+// Whether what a client needs is exported by the library's functions, and there is a top level among all symbols.
+fn check_all(
+    alloc: Global,
+    symbols: &NameTable,
+    theirs: &[Function],
+    imports: &[Symbol],
+) -> Result<(), LinkFault>
+    requires { BeginsWith (symbols_of theirs.now) symbols.now }
+    ensures { ChecksAll theirs.now symbols.now imports.now result }
+{
+    check_exported(alloc, symbols, theirs, imports)?;
+    if symbols.position(START).is_none() {
+        return Err(LinkFault::Missing(Name::from_vec(START.to_vec(alloc)?)));
+    }
+    Ok(())
+}
+
 // The symbols of a library's functions and a client's, which stand behind them, where they make an image.
 fn check(
     alloc: Global,
@@ -95,13 +120,9 @@ fn check(
     requires { all.now ≡ theirs.now ++ own.now }
     ensures { Checks theirs.now own.now needed.now imports.now result }
 {
-    let own_symbols = table_of(alloc, own)?;
+    check_own(alloc, own, needed)?;
     let symbols = table_of(alloc, all)?;
-    check_exported(alloc, &own_symbols, own, needed)?;
-    check_exported(alloc, &symbols, theirs, imports)?;
-    if symbols.position(START).is_none() {
-        return Err(LinkFault::Missing(Name::from_vec(START.to_vec(alloc)?)));
-    }
+    check_all(alloc, &symbols, theirs, imports)?;
     Ok(symbols)
 }
 

@@ -104,6 +104,7 @@ function_level_fact (Some a) (decl.Function name header block) f e = named_fact 
 function_level_fact (Some a) kind f e = absurd cc
 
 function_fact : (i : Item) (f : Function) → function_at i ≡ Some f → FunctionFacts f
+unfolding function_at
 function_fact (item.Decl d) f e = function_level_fact (access_of (out-Decl d).attrs (out-Decl d).modifiers) (out-DeclKind (out-Decl d).kind) f e
 function_fact (item.Stmt s) f e = absurd cc
 
@@ -138,6 +139,7 @@ print_stmt_fact (stmt.Expr x) p e = print_level_fact (out-Expr x) p e
 print_stmt_fact s p e = absurd cc
 
 print_fact : (i : Item) (p : Print) → print_at i ≡ Some p → PrintFacts p
+unfolding print_at
 print_fact (item.Stmt s) p e = print_stmt_fact (out-Stmt s) p e
 print_fact (item.Decl d) p e = absurd cc
 

@@ -131,7 +131,7 @@ function_level a kind = None
 abbrev pub function_of : Decl → Option Function
 function_of d = function_level (access_of (out-Decl d).attrs (out-Decl d).modifiers) (out-DeclKind (out-Decl d).kind)
 
-abbrev pub function_at : Item → Option Function
+unfoldable pub function_at : Item → Option Function
 function_at (item.Decl d) = function_of d
 function_at (item.Stmt s) = None
 
@@ -165,7 +165,7 @@ print_stmt_level (stmt.Expr e) = print_of e
 print_stmt_level s = None
 
 -- print
-abbrev pub print_at : Item → Option Print
+unfoldable pub print_at : Item → Option Print
 print_at (item.Stmt s) = print_stmt_level (out-Stmt s)
 print_at (item.Decl d) = None
 

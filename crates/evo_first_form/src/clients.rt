@@ -58,6 +58,7 @@ fn print_of(alloc: Global, expr: &Expr) -> Result<Option<Print>, AllocError>
     }
 }
 
+#[tactic(auto, unfolding(crate::specs::FirstForm::print_at))]
 fn print_at(alloc: Global, item: &Item) -> Result<Option<Print>, AllocError>
     ensures { IfOk result (λ found. found ≡ spec.print_at item.now) }
 {

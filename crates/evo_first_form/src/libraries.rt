@@ -109,6 +109,7 @@ fn function_of(alloc: Global, decl: &Decl) -> Result<Option<Function>, AllocErro
     }
 }
 
+#[tactic(auto, unfolding(crate::specs::FirstForm::function_at))]
 fn function_at(alloc: Global, item: &Item) -> Result<Option<Function>, AllocError>
     ensures { IfOk result (λ found. found ≡ spec.function_at item.now) }
 {

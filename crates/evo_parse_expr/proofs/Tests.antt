@@ -25,6 +25,10 @@ pub when_some : {A : Type 0} (b : Bool) (a x : A) → when b a ≡ Some x → (b
 when_some true a x e = (refl, cc)
 when_some false a x e = absurd cc
 
+-- what is nothing is no value
+nothing : {A X : Type 0} {x : X} → None ≡ Some x → A
+nothing e = absurd cc
+
 pub and_both : (a b : Bool) → (a && b) ≡ true → (a ≡ true) × (b ≡ true)
 and_both true b e = (refl, e)
 and_both false b e = absurd cc
@@ -279,14 +283,14 @@ multiplying_rank t.Star a below e = refl
 multiplying_rank t.Slash a below e = refl
 multiplying_rank t.Percent a below e = refl
 multiplying_rank t.WrappingStar a below e = refl
-multiplying_rank k a below e = absurd (cc)
+multiplying_rank k a below e = nothing e
 
 adding_rank : (k : Terminal) (a : InfixOperator) (below : Bool) → adding k ≡ Some a → rank_at k true below ≡ 3
 adding_rank t.Plus a below e = refl
 adding_rank t.Minus a below e = refl
 adding_rank t.WrappingPlus a below e = refl
 adding_rank t.WrappingMinus a below e = refl
-adding_rank k a below e = absurd (cc)
+adding_rank k a below e = nothing e
 
 comparing_rank : (k : Terminal) (a : InfixOperator) (below : Bool) → comparing k ≡ Some a → rank_at k true below ≡ 4
 comparing_rank t.EqualEqual a below e = refl
@@ -297,15 +301,15 @@ comparing_rank t.Greater a below e = refl
 comparing_rank t.GreaterEqual a below e = refl
 comparing_rank t.Identical a below e = refl
 comparing_rank t.NotIdentical a below e = refl
-comparing_rank k a below e = absurd (cc)
+comparing_rank k a below e = nothing e
 
 conjoining_rank : (k : Terminal) (a : InfixOperator) (below : Bool) → conjoining k ≡ Some a → rank_at k true below ≡ 5
 conjoining_rank t.AndAnd a below e = refl
-conjoining_rank k a below e = absurd (cc)
+conjoining_rank k a below e = nothing e
 
 disjoining_rank : (k : Terminal) (a : InfixOperator) (below : Bool) → disjoining k ≡ Some a → rank_at k true below ≡ 6
 disjoining_rank t.OrOr a below e = refl
-disjoining_rank k a below e = absurd (cc)
+disjoining_rank k a below e = nothing e
 
 -- an operator of a level has the level's rank
 level_rank : (f : Terminal → Option InfixOperator) (h : ℕ) → ((k : Terminal) (a : InfixOperator) (below : Bool) → f k ≡ Some a → rank_at k true below ≡ h) →
@@ -412,7 +416,7 @@ first_opens p (inr h) = ap opens_expr h.0
 sign_opens_at : (k : Terminal) (o : PrefixOperator) → sign_of k ≡ Some o → opens_expr k ≡ true
 sign_opens_at t.Minus o e = refl
 sign_opens_at t.Not o e = refl
-sign_opens_at k o e = absurd (cc)
+sign_opens_at k o e = nothing e
 
 sign_held : (p : Piece) (a : Place × PrefixOperator) → sign p ≡ Some a → sign_of p.terminal ≡ Some a.1
 unfolding sign
@@ -429,7 +433,7 @@ sign_opens p a e = sign_opens_at p.terminal a.1 (sign_held p a e)
 unsigned_at : (k : Terminal) (o : PrefixOperator) → opens_primary k ≡ true → sign_of k ≡ Some o → ⊥
 unsigned_at t.Minus o h e = cc
 unsigned_at t.Not o h e = cc
-unsigned_at k o h e = cc
+unsigned_at k o h e = nothing e
 
 -- what begins an operand without a sign is no sign
 pub first_unsigned : (p : Piece) (a : Place × PrefixOperator) → First p → sign p ≡ Some a → ⊥
@@ -474,7 +478,7 @@ some_integer = (_, refl)
 sign_numbers : (k : Terminal) (o : PrefixOperator) → sign_of k ≡ Some o → (number_of k ≡ 40) ⊎ (number_of k ≡ 57)
 sign_numbers t.Minus o e = inl refl
 sign_numbers t.Not o e = inr refl
-sign_numbers k o e = absurd (cc)
+sign_numbers k o e = nothing e
 
 is_some_some : {A : Type 0} (o : Option A) → is_some o ≡ true → (a : A) × (o ≡ Some a)
 is_some_some (Some a) e = (a, refl)

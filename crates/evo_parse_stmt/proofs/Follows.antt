@@ -17,6 +17,9 @@ use Rattle.evo_parse_stmt.proofs.Fits.{Leads}
 
 -- ---- terminals
 
+no : {A : Type 0} → false ≡ true → A
+no e = absurd cc
+
 abbrev pub expression_codes : List ℕ
 expression_codes = map number_of (t.Identifier ∷ t.Integer ∷ t.String ∷ t.SelfValue ∷ t.SelfType ∷ t.Super ∷ t.True ∷ t.False ∷ t.Minus ∷ t.Not ∷ t.OpenParenthesis ∷ t.Dot ∷ [])
 
@@ -33,7 +36,7 @@ opens_among t.Minus e = refl
 opens_among t.Not e = refl
 opens_among t.OpenParenthesis e = refl
 opens_among t.Dot e = refl
-opens_among k e = absurd cc
+opens_among k e = no e
 
 between_any : (b : Bool) (n : ℕ) → 6 < n → 6 < if_between b n
 between_any true n h = h
@@ -63,9 +66,9 @@ fresh_rank t.Not between below e minus is dot = between_eight between
 fresh_rank t.Minus true below e minus is dot = absurd (minus refl refl)
 fresh_rank t.Minus false below e minus is dot = omega arith
 fresh_rank t.OpenParenthesis between true e minus is dot = omega arith
-fresh_rank t.OpenParenthesis between false e minus is dot = absurd cc
+fresh_rank t.OpenParenthesis between false e minus is dot = no is
 fresh_rank t.Dot between below e minus is dot = absurd (dot refl)
-fresh_rank k between below e minus is dot = absurd cc
+fresh_rank k between below e minus is dot = no e
 
 -- ---- what may follow
 
@@ -159,7 +162,7 @@ calm_is t.Return e = refl
 calm_is t.Break e = refl
 calm_is t.Continue e = refl
 calm_is t.Switch e = refl
-calm_is k e = absurd cc
+calm_is k e = no e
 
 calm_after : (k : Terminal) (p : Piece) → code p ≡ number_of k → calm k ≡ true → After p
 unfolding calm
@@ -177,7 +180,7 @@ calm_after t.Return p e is = after_at t.Return p e (omega arith) refl refl
 calm_after t.Break p e is = after_at t.Break p e (omega arith) refl refl
 calm_after t.Continue p e is = after_at t.Continue p e (omega arith) refl refl
 calm_after t.Switch p e is = after_at t.Switch p e (omega arith) refl refl
-calm_after k p e is = absurd cc
+calm_after k p e is = no is
 
 among_after : (ks : List ℕ) (p : Piece) → within ks calm_codes ≡ true → among ks (code p) ≡ true → After p
 among_after ks p sub is = calm_after p.terminal p refl (calm_is p.terminal (widened ks calm_codes (code p) sub is))
@@ -253,7 +256,7 @@ assigning_rank t.MinusEqual e = omega arith
 assigning_rank t.StarEqual e = omega arith
 assigning_rank t.SlashEqual e = omega arith
 assigning_rank t.PercentEqual e = omega arith
-assigning_rank k e = absurd cc
+assigning_rank k e = no e
 
 pub operator_six : (y : Expr) (p : Piece) (o : AssignmentOperator) → assigns_to y p ≡ Some o → Stop 6 (Some p)
 operator_six y p o e = six_at p.terminal p refl (assigning_rank p.terminal (assigns_codes y p o e))

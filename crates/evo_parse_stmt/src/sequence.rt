@@ -138,9 +138,10 @@ impl<F: Fn(Global, &mut Cursor<'_>, u32, bool) -> Result<Stmt, ReadError>> State
         requires open { 0 < self.now.depth }
         ensures { Reads (spec.some_statements self.now.inits self.now.depth tokens.old) result tokens.new }
     {
-        let first = self.inner(tokens)?;
-        let more = self.statements(tokens, false)?;
-        Ok(joined(self.alloc, first, more)?)
+        let mut found = Items::new(self.alloc);
+        found.push(self.inner(tokens)?)?;
+        found.append(self.statements(tokens, false)?)?;
+        Ok(found)
     }
 
     #[tactic(auto, unfolding(crate::specs::Read::rest_of_block))]

@@ -5,6 +5,7 @@
 //! for an operator before its operand, `{x .m}` for members, `<x + y>` for a chain, and behind `@` the
 //! number of the first token that is not read.
 
+use crate::rows::{check, part};
 use evo_base::Name;
 use evo_lex::lex;
 use evo_parse_expr::{ParseFault, parse_expr};
@@ -315,6 +316,25 @@ pub fn show(out: &mut String, expr: &Expr) -> Result<(), Fail> {
     }
 }
 
+fn show_read(alloc: Global, expr: &Expr, end: u64) -> Result<String, Fail> {
+    let mut out = String::new(alloc);
+    show(&mut out, expr)?;
+    out.push_str(&format!(in alloc; " @{end}")?)?;
+    Ok(out)
+}
+
+fn show_fault(alloc: Global, fault: ParseFault) -> Result<String, Fail> {
+    match fault {
+        ParseFault::Grammar { place } => {
+            Ok(format!(in alloc; "Grammar {}:{}", place.line, place.col)?)
+        }
+        ParseFault::Deep { place } => {
+            Ok(format!(in alloc; "Deep {}:{}", place.line, place.col)?)
+        }
+        ParseFault::Memory => Ok(String::new(alloc)),
+    }
+}
+
 // What the parser answers on a text.
 fn shown(alloc: Global, text: &str) -> Result<String, Fail> {
     let bytes = text.as_bytes();
@@ -325,28 +345,15 @@ fn shown(alloc: Global, text: &str) -> Result<String, Fail> {
         return Ok(String::new(alloc));
     };
     match parse_expr(alloc, bytes, &tokens, 0, 0) {
-        Ok((expr, end)) => {
-            let mut out = String::new(alloc);
-            show(&mut out, &expr)?;
-            out.push_str(&format!(in alloc; " @{end}")?)?;
-            Ok(out)
-        }
-        Err(ParseFault::Grammar { place }) => {
-            Ok(format!(in alloc; "Grammar {}:{}", place.line, place.col)?)
-        }
-        Err(ParseFault::Deep { place }) => {
-            Ok(format!(in alloc; "Deep {}:{}", place.line, place.col)?)
-        }
-        Err(ParseFault::Memory) => Ok(String::new(alloc)),
+        Ok((expr, end)) => show_read(alloc, &expr, end),
+        Err(fault) => show_fault(alloc, fault),
     }
 }
 
 fn check_table(rt: &impl Abort, alloc: Global, table: &str) -> Result<(), Fail> {
     for row in table.split('~') {
-        let text = row.split('^').next().unwrap_or("");
-        let expected = row.split('^').nth(1).unwrap_or("");
-        let found = shown(alloc, text)?;
-        assert_eq!(rt; found.as_str(), expected, "what {text} spells");
+        let found = shown(alloc, part(row, 0))?;
+        check(rt, row, &found, part(row, 1))?;
     }
     Ok(())
 }
@@ -391,9 +398,8 @@ fn check_nested(
     (open, count, inner, close): (&str, usize, &str, &str),
     expected: &str,
 ) -> Result<(), Fail> {
-    let found = shown(alloc, &nested(alloc, open, count, inner, close)?)?;
-    assert_eq!(rt; found.as_str(), expected, "{count} of {open}");
-    Ok(())
+    let text = nested(alloc, open, count, inner, close)?;
+    check(rt, &text, &shown(alloc, &text)?, expected)
 }
 
 #[test]

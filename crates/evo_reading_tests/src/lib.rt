@@ -12,4 +12,6 @@ mod module_tests;
 #[cfg(test)]
 mod print_tests;
 #[cfg(test)]
+mod rows;
+#[cfg(test)]
 mod tree_tests;

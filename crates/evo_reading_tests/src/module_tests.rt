@@ -7,6 +7,7 @@
 mod declared;
 mod shown;
 
+use crate::rows::{check, part};
 use declared::{
     ACCESSORS, ATTRIBUTES, CLASSES, ENUMS, EXTENSIONS, HEADERS, INTERFACES, MODIFIERS, PROTOCOLS,
     STRUCTS, TOP_LEVEL,
@@ -411,11 +412,8 @@ fn outcome(alloc: Global, answer: Answer, whole: bool) -> Result<String, Fail> {
 
 fn check_table(rt: &impl Abort, alloc: Global, table: &str, whole: bool) -> Result<(), Fail> {
     for row in table.split('~') {
-        let form = row.split('^').next().unwrap_or("");
-        let text = row.split('^').nth(1).unwrap_or("");
-        let expected = row.split('^').nth(2).unwrap_or("");
-        let found = outcome(alloc, read(alloc, form, text)?, whole)?;
-        assert_eq!(rt; found.as_str(), expected, "what {text} is in form {form}");
+        let found = outcome(alloc, read(alloc, part(row, 0), part(row, 1))?, whole)?;
+        check(rt, row, &found, part(row, 2))?;
     }
     Ok(())
 }
@@ -483,15 +481,12 @@ fn push_copies(out: &mut String, text: &str, count: &str) -> Result<(), Fail> {
 
 // The text of a row of nestings.
 fn nested(alloc: Global, row: &str) -> Result<String, Fail> {
-    let open = row.split('^').nth(2).unwrap_or("");
-    let count = row.split('^').nth(3).unwrap_or("");
-    let close = row.split('^').nth(5).unwrap_or("");
     let mut text = String::new(alloc);
-    text.push_str(row.split('^').nth(1).unwrap_or(""))?;
-    push_copies(&mut text, open, count)?;
-    text.push_str(row.split('^').nth(4).unwrap_or(""))?;
-    push_copies(&mut text, close, count)?;
-    text.push_str(row.split('^').nth(6).unwrap_or(""))?;
+    text.push_str(part(row, 1))?;
+    push_copies(&mut text, part(row, 2), part(row, 3))?;
+    text.push_str(part(row, 4))?;
+    push_copies(&mut text, part(row, 5), part(row, 3))?;
+    text.push_str(part(row, 6))?;
     Ok(text)
 }
 
@@ -499,23 +494,16 @@ fn nested(alloc: Global, row: &str) -> Result<String, Fail> {
 fn nesting(rt: HostRuntime) -> Result<(), Fail> {
     let alloc = rt.alloc();
     for row in NESTING.split('~') {
-        let form = row.split('^').next().unwrap_or("");
-        let expected = row.split('^').nth(7).unwrap_or("");
         let text = nested(alloc, row)?;
-        let found = outcome(alloc, read(alloc, form, &text)?, false)?;
-        assert_eq!(rt; found.as_str(), expected, "what {text} is in form {form}");
+        let found = outcome(alloc, read(alloc, part(row, 0), &text)?, false)?;
+        check(&rt, row, &found, part(row, 7))?;
     }
     Ok(())
 }
 
 fn check_bytes(rt: &impl Abort, alloc: Global, text: &[u8], expected: &str) -> Result<(), Fail> {
     let found = outcome(alloc, client(alloc, text)?, false)?;
-    assert_eq!(rt;
-        found.as_str(),
-        expected,
-        "a client's text with bytes that are no UTF-8"
-    );
-    Ok(())
+    check(rt, "bytes that are no UTF-8", &found, expected)
 }
 
 #[test]
@@ -538,14 +526,15 @@ fn titled(alloc: Global, module: &Module) -> Result<String, Fail> {
     }
 }
 
+fn title(alloc: Global, answer: Answer) -> Result<String, Fail> {
+    match answer {
+        Ok(module) => titled(alloc, &module),
+        Err(_) => Ok(format!(in alloc; "not read")?),
+    }
+}
+
 fn check_title(rt: &impl Abort, alloc: Global, answer: Answer, expected: &str) -> Result<(), Fail> {
-    let Ok(module) = answer else {
-        assert_eq!(rt; "", expected, "a module that is read");
-        return Ok(());
-    };
-    let found = titled(alloc, &module)?;
-    assert_eq!(rt; found.as_str(), expected, "a module's name and release");
-    Ok(())
+    check(rt, "a name and a release", &title(alloc, answer)?, expected)
 }
 
 #[test]

@@ -5,6 +5,7 @@
 //! lines that the tests put before its text; they are left out of the tables.
 
 use crate::module_tests::{Answer, LINES, SOURCES, TREES, read, read_whole};
+use crate::rows::{check, part};
 use evo_print::print;
 use evo_tree::{Module, same};
 use std::alloc::{AllocError, Global};
@@ -405,6 +406,24 @@ fn text_of(alloc: Global, module: &Module) -> Result<Vec<u8>, AllocError> {
     print(alloc, module)
 }
 
+// What a module is that was read of another one's text.
+fn told_again(
+    alloc: Global,
+    module: &Module,
+    again: &Module,
+    text: &[u8],
+) -> Result<&'static str, Fail> {
+    if !same(module, again) {
+        return Ok("another module");
+    }
+    let printed = text_of(alloc, again)?;
+    if printed.as_slice() == text {
+        Ok("the same")
+    } else {
+        Ok("another text")
+    }
+}
+
 // What the text that is printed of a module is in its form.
 fn read_again(
     alloc: Global,
@@ -415,14 +434,7 @@ fn read_again(
     let Ok(again) = read_whole(alloc, form, text)? else {
         return Ok("no module");
     };
-    if !same(module, &again) {
-        return Ok("another module");
-    }
-    if text_of(alloc, &again)?.as_slice() == text {
-        Ok("the same")
-    } else {
-        Ok("another text")
-    }
+    told_again(alloc, module, &again, text)
 }
 
 fn trip(alloc: Global, form: &str, text: &str) -> Result<&'static str, Fail> {
@@ -435,14 +447,12 @@ fn trip(alloc: Global, form: &str, text: &str) -> Result<&'static str, Fail> {
 
 fn check_trips(rt: &impl Abort, alloc: Global, table: &str) -> Result<(), Fail> {
     for row in table.split('~') {
-        let form = row.split('^').next().unwrap_or("");
-        let text = row.split('^').nth(1).unwrap_or("");
-        let found = trip(alloc, form, text)?;
-        assert_eq!(rt;
-            found,
+        check(
+            rt,
+            row,
+            trip(alloc, part(row, 0), part(row, 1))?,
             "the same",
-            "what is printed of {text} in form {form}"
-        );
+        )?;
     }
     Ok(())
 }
@@ -450,16 +460,12 @@ fn check_trips(rt: &impl Abort, alloc: Global, table: &str) -> Result<(), Fail> 
 // The same, but for texts that spell no module of the form.
 fn check_read_trips(rt: &impl Abort, alloc: Global, table: &str) -> Result<(), Fail> {
     for row in table.split('~') {
-        let form = row.split('^').next().unwrap_or("");
-        let text = row.split('^').nth(1).unwrap_or("");
-        let answer = row.split('^').nth(2).unwrap_or("");
-        let expected = if answer.ends_with("not in the grammar") {
+        let expected = if part(row, 2).ends_with("not in the grammar") {
             "not read"
         } else {
             "the same"
         };
-        let found = trip(alloc, form, text)?;
-        assert_eq!(rt; found, expected, "what is printed of {text} in form {form}");
+        check(rt, row, trip(alloc, part(row, 0), part(row, 1))?, expected)?;
     }
     Ok(())
 }
@@ -477,13 +483,11 @@ fn texts_of_the_reader_are_read_again(rt: HostRuntime) -> Result<(), Fail> {
 
 fn check_print(rt: &impl Abort, alloc: Global, answer: Answer, expected: &str) -> Result<(), Fail> {
     let Ok(module) = answer else {
-        assert_eq!(rt; "not read", expected, "a module that is read");
-        return Ok(());
+        return check(rt, "what is printed of a module", "not read", expected);
     };
     let printed = text_of(alloc, &module)?;
     let found = str::from_utf8(printed.as_slice()).unwrap_or("not UTF-8");
-    assert_eq!(rt; found, expected, "what is printed of a module");
-    Ok(())
+    check(rt, "what is printed of a module", found, expected)
 }
 
 // What is printed of a text in a form, behind the lines of an interface.
@@ -498,10 +502,9 @@ fn whole(alloc: Global, form: &str, printed: &str) -> Result<String, Fail> {
 fn texts_are_printed(rt: HostRuntime) -> Result<(), Fail> {
     let alloc = rt.alloc();
     for row in PRINTED.split('~') {
-        let form = row.split('^').next().unwrap_or("");
-        let text = row.split('^').nth(1).unwrap_or("");
-        let expected = whole(alloc, form, row.split('^').nth(2).unwrap_or("none"))?;
-        check_print(&rt, alloc, read(alloc, form, text)?, expected.as_str())?;
+        let expected = whole(alloc, part(row, 0), part(row, 2))?;
+        let answer = read(alloc, part(row, 0), part(row, 1))?;
+        check_print(&rt, alloc, answer, expected.as_str())?;
     }
     Ok(())
 }
@@ -534,7 +537,5 @@ fn a_library_is_printed(rt: HostRuntime) -> Result<(), Fail> {
     let alloc = rt.alloc();
     let answer = read_whole(alloc, "L", SHAPES.as_bytes())?;
     check_print(&rt, alloc, answer, SHAPES_PRINTED)?;
-    let found = trip(alloc, "L", SHAPES)?;
-    assert_eq!(rt; found, "the same", "what is printed of the library");
-    Ok(())
+    check(&rt, "the library", trip(alloc, "L", SHAPES)?, "the same")
 }

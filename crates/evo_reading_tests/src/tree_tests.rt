@@ -4,6 +4,7 @@
 //! number n are read, counted from 0, and `no @n` and `deep @n` that this token is refused, or opens one
 //! nesting too many.
 
+use crate::rows::{check, part};
 use evo_base::{List, Name, Token};
 use evo_combinators::{Fault, ReadError};
 use evo_lex::lex;
@@ -260,26 +261,21 @@ enum Kind {
     Interface,
 }
 
+// Whether something was read, without it.
+fn emptied<T: Drop>(read: Result<T, ReadError>) -> Result<(), ReadError> {
+    read?;
+    Ok(())
+}
+
 // Whether the front of the tokens was read; otherwise why not.
 fn read(alloc: Global, cursor: &mut Cursor<'_>, kind: Kind) -> Result<(), ReadError> {
     match kind {
-        Kind::Statement => {
-            statement(alloc, cursor, 64, true)?;
-        }
-        Kind::Block => {
-            block(alloc, cursor, 64, false)?;
-        }
-        Kind::Initialiser => {
-            block(alloc, cursor, 64, true)?;
-        }
-        Kind::Declaration => {
-            declaration(alloc, cursor, 64, false)?;
-        }
-        Kind::Interface => {
-            declaration(alloc, cursor, 64, true)?;
-        }
+        Kind::Statement => emptied(statement(alloc, cursor, 64, true)),
+        Kind::Block => emptied(block(alloc, cursor, 64, false)),
+        Kind::Initialiser => emptied(block(alloc, cursor, 64, true)),
+        Kind::Declaration => emptied(declaration(alloc, cursor, 64, false)),
+        Kind::Interface => emptied(declaration(alloc, cursor, 64, true)),
     }
-    Ok(())
 }
 
 fn outcome(alloc: Global, text: &[u8], tokens: &[Token], kind: Kind) -> Result<String, Fail> {
@@ -316,10 +312,8 @@ fn shown(alloc: Global, text: &str, kind: Kind) -> Result<String, Fail> {
 
 fn check_table(rt: &impl Abort, alloc: Global, table: &str, kind: Kind) -> Result<(), Fail> {
     for row in table.split('~') {
-        let text = row.split('^').next().unwrap_or("");
-        let expected = row.split('^').nth(1).unwrap_or("");
-        let found = shown(alloc, text, kind)?;
-        assert_eq!(rt; found.as_str(), expected, "how far {text} is read");
+        let found = shown(alloc, part(row, 0), kind)?;
+        check(rt, row, &found, part(row, 1))?;
     }
     Ok(())
 }
@@ -347,9 +341,7 @@ fn check_nested(rt: &impl Abort, alloc: Global, count: usize, expected: &str) ->
     for _ in 0..count {
         text.push_str("}")?;
     }
-    let found = shown(alloc, &text, Kind::Block)?;
-    assert_eq!(rt; found.as_str(), expected, "{count} blocks");
-    Ok(())
+    check(rt, &text, &shown(alloc, &text, Kind::Block)?, expected)
 }
 
 #[test]
@@ -462,11 +454,8 @@ fn verdict(alloc: Global, a: &str, b: &str) -> Result<&'static str, Fail> {
 fn copies_and_sameness(rt: HostRuntime) -> Result<(), Fail> {
     let alloc = rt.alloc();
     for row in PAIRS.split('~') {
-        let a = row.split('^').next().unwrap_or("");
-        let b = row.split('^').nth(1).unwrap_or("");
-        let expected = row.split('^').nth(2).unwrap_or("");
-        let found = verdict(alloc, a, b)?;
-        assert_eq!(rt; found, expected, "{a} and {b}");
+        let found = verdict(alloc, part(row, 0), part(row, 1))?;
+        check(&rt, row, found, part(row, 2))?;
     }
     Ok(())
 }

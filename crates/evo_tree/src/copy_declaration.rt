@@ -1,12 +1,16 @@
 //! Copies of declarations.
 
 ghost use Rattle.std.specs.Prelude.{◌≡◌, IfOk};
+ghost use Rattle.evo_tree.specs.declared.declaration.DeclKind.TheVariants as declared;
 
 use crate::copy::{Copied, copy_list, copy_option};
 use crate::declaration::{
-    Accessors, Attr, Decl, DeclKind, GenericParameter, Header, Modifier, Parameter, ParameterLabel,
-    Payload, Requirement,
+    Accessors, Attr, Decl, DeclKind, GenericParameter, Header, Modifier, NominalKind, Parameter,
+    ParameterLabel, Payload, Requirement,
 };
+use crate::name::{Identifier, TypeName};
+use crate::statement::{Block, Introducer};
+use evo_base::List;
 use sqlite_items::Items;
 use std::alloc::{AllocError, Global};
 
@@ -145,6 +149,108 @@ impl Copied for Payload {
     }
 }
 
+fn copy_function(
+    alloc: Global,
+    name: &Identifier,
+    header: &Header,
+    body: &Option<Block>,
+) -> Result<DeclKind, AllocError>
+    ensures { IfOk result (λ copy. copy ≡ declared.Function name.now header.now body.now) }
+{
+    let name = name.copy(alloc)?;
+    let header = header.copy(alloc)?;
+    Ok(DeclKind::Function(name, header, copy_option(alloc, body)?))
+}
+
+fn copy_initialiser(
+    alloc: Global,
+    header: &Header,
+    body: &Option<Block>,
+) -> Result<DeclKind, AllocError>
+    ensures { IfOk result (λ copy. copy ≡ declared.Initialiser header.now body.now) }
+{
+    let header = header.copy(alloc)?;
+    Ok(DeclKind::Initialiser(header, copy_option(alloc, body)?))
+}
+
+fn copy_property(
+    alloc: Global,
+    introducer: Introducer,
+    name: &Identifier,
+    type_name: &TypeName,
+    accessors: &Accessors,
+) -> Result<DeclKind, AllocError>
+    ensures { IfOk result (λ copy. copy ≡ declared.Property introducer name.now type_name.now accessors.now) }
+{
+    let name = name.copy(alloc)?;
+    let type_name = type_name.copy(alloc)?;
+    let accessors = accessors.copy(alloc)?;
+    Ok(DeclKind::Property(introducer, name, type_name, accessors))
+}
+
+fn copy_alias(
+    alloc: Global,
+    name: &Identifier,
+    type_name: &TypeName,
+) -> Result<DeclKind, AllocError>
+    ensures { IfOk result (λ copy. copy ≡ declared.TypeAlias name.now type_name.now) }
+{
+    let name = name.copy(alloc)?;
+    Ok(DeclKind::TypeAlias(name, type_name.copy(alloc)?))
+}
+
+fn copy_associated(
+    alloc: Global,
+    name: &Identifier,
+    protocols: &List<TypeName>,
+    default: &Option<TypeName>,
+) -> Result<DeclKind, AllocError>
+    ensures { IfOk result (λ copy. copy ≡ declared.AssociatedType name.now protocols.now default.now) }
+{
+    let name = name.copy(alloc)?;
+    let protocols = copy_list(alloc, protocols)?;
+    let default = copy_option(alloc, default)?;
+    Ok(DeclKind::AssociatedType(name, protocols, default))
+}
+
+fn copy_case(
+    alloc: Global,
+    name: &Identifier,
+    payload: &List<Payload>,
+) -> Result<DeclKind, AllocError>
+    ensures { IfOk result (λ copy. copy ≡ declared.Case name.now payload.now) }
+{
+    let name = name.copy(alloc)?;
+    Ok(DeclKind::Case(name, copy_list(alloc, payload)?))
+}
+
+fn copy_nominal(
+    alloc: Global,
+    kind: NominalKind,
+    name: &Identifier,
+    inherited: &List<TypeName>,
+    members: Items<Decl>,
+) -> Result<DeclKind, AllocError>
+    ensures { IfOk result (λ copy. copy ≡ declared.Nominal kind name.now inherited.now members) }
+{
+    let name = name.copy(alloc)?;
+    let inherited = copy_list(alloc, inherited)?;
+    Ok(DeclKind::Nominal(kind, name, inherited, members))
+}
+
+fn copy_extension(
+    alloc: Global,
+    type_name: &TypeName,
+    protocols: &List<TypeName>,
+    members: Items<Decl>,
+) -> Result<DeclKind, AllocError>
+    ensures { IfOk result (λ copy. copy ≡ declared.Extension type_name.now protocols.now members) }
+{
+    let type_name = type_name.copy(alloc)?;
+    let protocols = copy_list(alloc, protocols)?;
+    Ok(DeclKind::Extension(type_name, protocols, members))
+}
+
 #[cycle(copies)]
 fn copy_decls(alloc: Global, items: &Items<Decl>) -> Result<Items<Decl>, AllocError>
     ensures { IfOk result (λ copy. copy ≡ items.now) }
@@ -172,44 +278,26 @@ fn copy_decl(alloc: Global, decl: &Decl) -> Result<Decl, AllocError>
 fn copy_kind(alloc: Global, kind: &DeclKind) -> Result<DeclKind, AllocError>
     ensures { IfOk result (λ copy. copy ≡ kind.now) }
 {
-    Ok(match kind {
-        DeclKind::Function(name, header, body) => DeclKind::Function(
-            name.copy(alloc)?,
-            header.copy(alloc)?,
-            copy_option(alloc, body)?,
-        ),
-        DeclKind::Initialiser(header, body) => {
-            DeclKind::Initialiser(header.copy(alloc)?, copy_option(alloc, body)?)
+    match kind {
+        DeclKind::Function(name, header, body) => copy_function(alloc, name, header, body),
+        DeclKind::Initialiser(header, body) => copy_initialiser(alloc, header, body),
+        DeclKind::Property(introducer, name, type_name, accessors) => {
+            copy_property(alloc, *introducer, name, type_name, accessors)
         }
-        DeclKind::Property(introducer, name, type_name, accessors) => DeclKind::Property(
-            *introducer,
-            name.copy(alloc)?,
-            type_name.copy(alloc)?,
-            accessors.copy(alloc)?,
-        ),
-        DeclKind::TypeAlias(name, type_name) => {
-            DeclKind::TypeAlias(name.copy(alloc)?, type_name.copy(alloc)?)
+        DeclKind::TypeAlias(name, type_name) => copy_alias(alloc, name, type_name),
+        DeclKind::AssociatedType(name, protocols, default) => {
+            copy_associated(alloc, name, protocols, default)
         }
-        DeclKind::AssociatedType(name, protocols, default) => DeclKind::AssociatedType(
-            name.copy(alloc)?,
-            copy_list(alloc, protocols)?,
-            copy_option(alloc, default)?,
-        ),
-        DeclKind::Case(name, payload) => {
-            DeclKind::Case(name.copy(alloc)?, copy_list(alloc, payload)?)
+        DeclKind::Case(name, payload) => copy_case(alloc, name, payload),
+        DeclKind::Nominal(kind, name, inherited, members) => {
+            let members = copy_decls(alloc, members)?;
+            copy_nominal(alloc, *kind, name, inherited, members)
         }
-        DeclKind::Nominal(kind, name, inherited, members) => DeclKind::Nominal(
-            *kind,
-            name.copy(alloc)?,
-            copy_list(alloc, inherited)?,
-            copy_decls(alloc, members)?,
-        ),
-        DeclKind::Extension(type_name, protocols, members) => DeclKind::Extension(
-            type_name.copy(alloc)?,
-            copy_list(alloc, protocols)?,
-            copy_decls(alloc, members)?,
-        ),
-    })
+        DeclKind::Extension(type_name, protocols, members) => {
+            let members = copy_decls(alloc, members)?;
+            copy_extension(alloc, type_name, protocols, members)
+        }
+    }
 }
 
 impl Decl {

@@ -1,11 +1,46 @@
 //! Copies of expressions.
 
 ghost use Rattle.std.specs.Prelude.{◌≡◌, IfOk};
+ghost use Rattle.evo_tree.specs.declared.expression.Expr.TheVariants as expression;
 
 use crate::copy::{Copied, copy_option};
 use crate::expression::{Argument, Expr, Member, Operand};
+use crate::name::Identifier;
+use evo_base::Place;
 use sqlite_items::{Boxed, Items};
 use std::alloc::{AllocError, Global};
+
+fn copy_name(
+    alloc: Global,
+    name: &Identifier,
+    call: Option<Items<Argument>>,
+) -> Result<Expr, AllocError>
+    ensures { IfOk result (λ copy. copy ≡ expression.Name name.now call) }
+{
+    Ok(Expr::Name(name.copy(alloc)?, call))
+}
+
+fn copy_super(
+    alloc: Global,
+    place: Place,
+    name: &Identifier,
+    arguments: Items<Argument>,
+) -> Result<Expr, AllocError>
+    ensures { IfOk result (λ copy. copy ≡ expression.Super place name.now arguments) }
+{
+    Ok(Expr::Super(place, name.copy(alloc)?, arguments))
+}
+
+fn copy_implicit(
+    alloc: Global,
+    place: Place,
+    name: &Identifier,
+    call: Option<Items<Argument>>,
+) -> Result<Expr, AllocError>
+    ensures { IfOk result (λ copy. copy ≡ expression.ImplicitMember place name.now call) }
+{
+    Ok(Expr::ImplicitMember(place, name.copy(alloc)?, call))
+}
 
 #[cycle(copies)]
 fn copy_arguments(alloc: Global, items: &Items<Argument>) -> Result<Items<Argument>, AllocError>
@@ -64,31 +99,35 @@ fn copy_boxed(alloc: Global, expr: &Boxed<Expr>) -> Result<Boxed<Expr>, AllocErr
 fn copy_expr(alloc: Global, expr: &Expr) -> Result<Expr, AllocError>
     ensures { IfOk result (λ copy. copy ≡ expr.now) }
 {
-    Ok(match expr {
-        Expr::Integer(place, value) => Expr::Integer(*place, *value),
-        Expr::Negative(place, value) => Expr::Negative(*place, *value),
-        Expr::String(place, text) => Expr::String(*place, text.copy(alloc)?),
-        Expr::Boolean(place, value) => Expr::Boolean(*place, *value),
-        Expr::Name(name, call) => Expr::Name(name.copy(alloc)?, copy_call(alloc, call)?),
-        Expr::SelfValue(place) => Expr::SelfValue(*place),
-        Expr::SelfType(place) => Expr::SelfType(*place),
+    match expr {
+        Expr::Integer(place, value) => Ok(Expr::Integer(*place, *value)),
+        Expr::Negative(place, value) => Ok(Expr::Negative(*place, *value)),
+        Expr::String(place, text) => Ok(Expr::String(*place, text.copy(alloc)?)),
+        Expr::Boolean(place, value) => Ok(Expr::Boolean(*place, *value)),
+        Expr::Name(name, call) => copy_name(alloc, name, copy_call(alloc, call)?),
+        Expr::SelfValue(place) => Ok(Expr::SelfValue(*place)),
+        Expr::SelfType(place) => Ok(Expr::SelfType(*place)),
         Expr::Super(place, name, arguments) => {
-            Expr::Super(*place, name.copy(alloc)?, copy_arguments(alloc, arguments)?)
+            copy_super(alloc, *place, name, copy_arguments(alloc, arguments)?)
         }
         Expr::ImplicitMember(place, name, call) => {
-            Expr::ImplicitMember(*place, name.copy(alloc)?, copy_call(alloc, call)?)
+            copy_implicit(alloc, *place, name, copy_call(alloc, call)?)
         }
-        Expr::Parenthesised(place, inner) => Expr::Parenthesised(*place, copy_boxed(alloc, inner)?),
+        Expr::Parenthesised(place, inner) => {
+            Ok(Expr::Parenthesised(*place, copy_boxed(alloc, inner)?))
+        }
         Expr::Prefix(place, operator, inner) => {
-            Expr::Prefix(*place, *operator, copy_boxed(alloc, inner)?)
+            Ok(Expr::Prefix(*place, *operator, copy_boxed(alloc, inner)?))
         }
         Expr::Members(first, members) => {
-            Expr::Members(copy_boxed(alloc, first)?, copy_members(alloc, members)?)
+            let first = copy_boxed(alloc, first)?;
+            Ok(Expr::Members(first, copy_members(alloc, members)?))
         }
         Expr::Chain(first, operands) => {
-            Expr::Chain(copy_boxed(alloc, first)?, copy_operands(alloc, operands)?)
+            let first = copy_boxed(alloc, first)?;
+            Ok(Expr::Chain(first, copy_operands(alloc, operands)?))
         }
-    })
+    }
 }
 
 impl Expr {

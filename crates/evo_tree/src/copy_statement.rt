@@ -1,11 +1,15 @@
 //! Copies of patterns and statements.
 
 ghost use Rattle.std.specs.Prelude.{◌≡◌, IfOk};
+ghost use Rattle.evo_tree.specs.declared.statement.Stmt.TheVariants as statement;
 
 use crate::copy::{Copied, copy_list, copy_option};
-use crate::expression::Argument;
-use crate::statement::{Binding, Block, Branch, Clause, ClauseLabel, Pattern, Stmt};
-use evo_base::List;
+use crate::expression::{Argument, Expr};
+use crate::name::{Identifier, TypeName};
+use crate::statement::{
+    AssignmentOperator, Binding, Block, Branch, Clause, ClauseLabel, Introducer, Pattern, Stmt,
+};
+use evo_base::{List, Place};
 use sqlite_items::Items;
 use std::alloc::{AllocError, Global};
 
@@ -89,6 +93,56 @@ fn copy_arguments(alloc: Global, items: &Items<Argument>) -> Result<Items<Argume
     Ok(copies)
 }
 
+fn copy_local(
+    alloc: Global,
+    place: Place,
+    introducer: Introducer,
+    name: &Identifier,
+    type_name: &Option<TypeName>,
+    value: &Expr,
+) -> Result<Stmt, AllocError>
+    ensures { IfOk result (λ copy. copy ≡ statement.Local place introducer name.now type_name.now value.now) }
+{
+    let name = name.copy(alloc)?;
+    let type_name = copy_option(alloc, type_name)?;
+    let value = value.copy(alloc)?;
+    Ok(Stmt::Local(place, introducer, name, type_name, value))
+}
+
+fn copy_assign(
+    alloc: Global,
+    target: &Expr,
+    operator: AssignmentOperator,
+    value: &Expr,
+) -> Result<Stmt, AllocError>
+    ensures { IfOk result (λ copy. copy ≡ statement.Assign target.now operator value.now) }
+{
+    let target = target.copy(alloc)?;
+    Ok(Stmt::Assign(target, operator, value.copy(alloc)?))
+}
+
+fn copy_while(
+    alloc: Global,
+    place: Place,
+    condition: &Expr,
+    block: Block,
+) -> Result<Stmt, AllocError>
+    ensures { IfOk result (λ copy. copy ≡ statement.While place condition.now block) }
+{
+    Ok(Stmt::While(place, condition.copy(alloc)?, block))
+}
+
+fn copy_switch(
+    alloc: Global,
+    place: Place,
+    value: &Expr,
+    clauses: Items<Clause>,
+) -> Result<Stmt, AllocError>
+    ensures { IfOk result (λ copy. copy ≡ statement.Switch place value.now clauses) }
+{
+    Ok(Stmt::Switch(place, value.copy(alloc)?, clauses))
+}
+
 #[cycle(copies)]
 fn copy_stmts(alloc: Global, items: &Items<Stmt>) -> Result<Items<Stmt>, AllocError>
     ensures { IfOk result (λ copy. copy ≡ items.now) }
@@ -148,42 +202,32 @@ fn copy_clause(alloc: Global, clause: &Clause) -> Result<Clause, AllocError>
 fn copy_stmt(alloc: Global, stmt: &Stmt) -> Result<Stmt, AllocError>
     ensures { IfOk result (λ copy. copy ≡ stmt.now) }
 {
-    Ok(match stmt {
-        Stmt::Local(place, introducer, name, type_name, value) => Stmt::Local(
-            *place,
-            *introducer,
-            name.copy(alloc)?,
-            copy_option(alloc, type_name)?,
-            value.copy(alloc)?,
-        ),
-        Stmt::Discard(place, value) => Stmt::Discard(*place, value.copy(alloc)?),
-        Stmt::Assign(target, operator, value) => Stmt::Assign(
-            target.copy(alloc)?,
-            *operator,
-            value.copy(alloc)?,
-        ),
-        Stmt::Expr(value) => Stmt::Expr(value.copy(alloc)?),
+    match stmt {
+        Stmt::Local(place, introducer, name, type_name, value) => {
+            copy_local(alloc, *place, *introducer, name, type_name, value)
+        }
+        Stmt::Discard(place, value) => Ok(Stmt::Discard(*place, value.copy(alloc)?)),
+        Stmt::Assign(target, operator, value) => copy_assign(alloc, target, *operator, value),
+        Stmt::Expr(value) => Ok(Stmt::Expr(value.copy(alloc)?)),
         Stmt::SelfInit(place, arguments) => {
-            Stmt::SelfInit(*place, copy_arguments(alloc, arguments)?)
+            Ok(Stmt::SelfInit(*place, copy_arguments(alloc, arguments)?))
         }
         Stmt::SuperInit(place, arguments) => {
-            Stmt::SuperInit(*place, copy_arguments(alloc, arguments)?)
+            Ok(Stmt::SuperInit(*place, copy_arguments(alloc, arguments)?))
         }
-        Stmt::If(place, branches) => Stmt::If(*place, copy_branches(alloc, branches)?),
-        Stmt::While(place, condition, block) => Stmt::While(
-            *place,
-            condition.copy(alloc)?,
-            copy_block(alloc, block)?,
-        ),
-        Stmt::Return(place, value) => Stmt::Return(*place, copy_option(alloc, value)?),
-        Stmt::Break(place) => Stmt::Break(*place),
-        Stmt::Continue(place) => Stmt::Continue(*place),
-        Stmt::Switch(place, value, clauses) => Stmt::Switch(
-            *place,
-            value.copy(alloc)?,
-            copy_clauses(alloc, clauses)?,
-        ),
-    })
+        Stmt::If(place, branches) => Ok(Stmt::If(*place, copy_branches(alloc, branches)?)),
+        Stmt::While(place, condition, block) => {
+            let block = copy_block(alloc, block)?;
+            copy_while(alloc, *place, condition, block)
+        }
+        Stmt::Return(place, value) => Ok(Stmt::Return(*place, copy_option(alloc, value)?)),
+        Stmt::Break(place) => Ok(Stmt::Break(*place)),
+        Stmt::Continue(place) => Ok(Stmt::Continue(*place)),
+        Stmt::Switch(place, value, clauses) => {
+            let clauses = copy_clauses(alloc, clauses)?;
+            copy_switch(alloc, *place, value, clauses)
+        }
+    }
 }
 
 impl Block {

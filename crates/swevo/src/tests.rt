@@ -83,6 +83,22 @@ fn end_for(status: Status) -> Option<Option<End>> {
     }
 }
 
+fn check_bytes(rt: &impl Abort, what: &str, found: &[u8], expected: &str) {
+    assert_eq!(rt; found, expected.as_bytes(), "bytes of {what}");
+}
+
+fn check_status(rt: &impl Abort, line: &str, status: Status, expected: &str) {
+    assert_eq!(rt;
+        Ok(status.code()),
+        expected.parse::<u8>(),
+        "status of {line}"
+    );
+}
+
+fn check_end(rt: &impl Abort, line: &str, bench: &Option<Machine>, status: Status) {
+    assert_eq!(rt; end_of(bench), end_for(status), "machine of {line}");
+}
+
 // Does what a line of words asks for, over the texts of the three files, with so much room on `out`, and looks
 // at what came of it. The calls on the files, on `out` and on `err` with these numbers fail; no call has the
 // number 0.
@@ -99,10 +115,10 @@ fn check(
     let mut out_sink = sink_of(alloc, room, fails[1])?;
     let mut err_sink = sink_of(alloc, 100, fails[2])?;
     let (status, bench) = run(alloc, &words, &mut files, &mut out_sink, &mut err_sink);
-    assert_eq!(rt; err_sink.bytes(), err.as_bytes(), "err of {line}");
-    assert_eq!(rt; out_sink.bytes(), out.as_bytes(), "out of {line}");
-    assert_eq!(rt; Ok(status.code()), code.parse::<u8>(), "status of {line}");
-    assert_eq!(rt; end_of(&bench), end_for(status), "machine of {line}");
+    check_bytes(rt, line, err_sink.bytes(), err);
+    check_bytes(rt, line, out_sink.bytes(), out);
+    check_status(rt, line, status, code);
+    check_end(rt, line, &bench, status);
     Ok(())
 }
 

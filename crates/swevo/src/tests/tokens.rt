@@ -1,6 +1,6 @@
 //! What the lexer answers.
 
-use super::raw;
+use super::{check_bytes, raw};
 use evo_base::{Token, TokenKind};
 use evo_lex::{LexFault, lex};
 use std::alloc::Global;
@@ -162,14 +162,16 @@ fn shown_lex(alloc: Global, text: &[u8]) -> Result<String, Fail> {
     }
 }
 
+fn part(row: &str, at: usize) -> &str {
+    row.split('^').nth(at).unwrap_or("")
+}
+
 #[test]
 fn tokens_of_texts(rt: HostRuntime) -> Result<(), Fail> {
     let alloc = rt.alloc();
     for row in TOKENS.split('~') {
-        let text = row.split('^').next().unwrap_or("");
-        let expected = row.split('^').nth(1).unwrap_or("");
-        let shown = shown_lex(alloc, &raw(alloc, text)?)?;
-        assert_eq!(&rt; shown.as_str(), expected, "tokens of {text}");
+        let shown = shown_lex(alloc, &raw(alloc, part(row, 0))?)?;
+        check_bytes(&rt, row, shown.as_bytes(), part(row, 1));
     }
     Ok(())
 }
