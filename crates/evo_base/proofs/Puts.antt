@@ -3,9 +3,9 @@ use Rattle.std.proofs.Common.{◌≡◌, ◌≢◌, ℕ, Bool, true, false, List
 use Rattle.std.specs.Option.{option_map}
 use Rattle.std.specs.Str.{bytes_eq}
 use Rattle.std.proofs.lemmas.Slice.Eq.{bytes_eq-Decides}
-use Rattle.evo_base.specs.FilesState.{Held, put_entry, bytes_of, room_of, PutsTo}
+use Rattle.evo_base.specs.FilesState.{StoredFile, put_entry, bytes_of, room_of, PutsTo}
 
-same : (name bytes : List ℕ) (es : List Held) → bytes_of name (put_entry name bytes es) ≡ option_map (λ (had : List ℕ). bytes) (bytes_of name es)
+same : (name bytes : List ℕ) (es : List StoredFile) → bytes_of name (put_entry name bytes es) ≡ option_map (λ (had : List ℕ). bytes) (bytes_of name es)
 same name bytes [] = refl
 same name bytes (x ∷ xs) =
     let at : (b : Bool) → bytes_eq x.name name ≡ b → bytes_of name (put_entry name bytes (x ∷ xs)) ≡ option_map (λ (had : List ℕ). bytes) (bytes_of name (x ∷ xs))
@@ -22,7 +22,7 @@ apart mine name other ne is =
     ] in
     at (bytes_eq mine other) refl
 
-others : (name bytes : List ℕ) (es : List Held) (other : List ℕ) → other ≢ name → bytes_of other (put_entry name bytes es) ≡ bytes_of other es
+others : (name bytes : List ℕ) (es : List StoredFile) (other : List ℕ) → other ≢ name → bytes_of other (put_entry name bytes es) ≡ bytes_of other es
 others name bytes [] other ne = refl
 others name bytes (x ∷ xs) other ne =
     let rest = others name bytes xs other ne in
@@ -35,7 +35,7 @@ others name bytes (x ∷ xs) other ne =
     ] in
     at (bytes_eq x.name name) refl
 
-rooms : (name bytes : List ℕ) (es : List Held) (other : List ℕ) → room_of other (put_entry name bytes es) ≡ room_of other es
+rooms : (name bytes : List ℕ) (es : List StoredFile) (other : List ℕ) → room_of other (put_entry name bytes es) ≡ room_of other es
 rooms name bytes [] other = refl
 rooms name bytes (x ∷ xs) other =
     let rest = rooms name bytes xs other in
@@ -50,5 +50,5 @@ rooms name bytes (x ∷ xs) other =
     ] in
     at (bytes_eq x.name name) refl
 
-pub puts_to : (name bytes : List ℕ) (es : List Held) → PutsTo es (put_entry name bytes es) name bytes
+pub puts_to : (name bytes : List ℕ) (es : List StoredFile) → PutsTo es (put_entry name bytes es) name bytes
 puts_to name bytes es = record { entries = refl; content = same name bytes es; others = others name bytes es; rooms = rooms name bytes es }

@@ -5,6 +5,6 @@ pub mod FilesState
 pub mod Keywords
 pub mod Laws
 pub mod Names
-pub mod Plan
+pub mod FailurePlan
 pub mod SinkState
 pub mod Tokens

@@ -1,6 +1,6 @@
 -- A sink in memory.
 use Rattle.std.specs.Prelude.{ℕ, ◌+◌, ◌-◌, ◌/◌, ◌^◌, ◌≤◌, min, List, ◌++◌, take, length, Bool, nat_lt, if◌then◌else◌, ◌||◌}
-use Rattle.evo_base.specs.Plan.{PlanState, NoneAhead, fails_next, counted}
+use Rattle.evo_base.specs.FailurePlan.{PlanState, NoneAhead, fails_next, counted}
 
 -- what was written, the room for all of it, the calls that are to fail, how many failed, and whether the last one did
 pub record SinkState : Type 0 where

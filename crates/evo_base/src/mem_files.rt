@@ -5,7 +5,7 @@ ghost use Rattle.evo_base.specs.Content.{IsFront, Puts};
 ghost use Rattle.evo_base.specs.FilesState.{add_entry, room_of, has_room, PutsTo};
 
 use crate::entry::{Entry, place_of};
-use crate::plan::Plan;
+use crate::plan::FailurePlan;
 use crate::{Failed, Files, GetFault, Name};
 use std::alloc::{AllocError, Global};
 use std::marker::Model;
@@ -14,7 +14,7 @@ use std::marker::Model;
 #[derive(Drop)]
 pub struct MemFiles {
     entries: Vec<Entry>,
-    plan: Plan,
+    plan: FailurePlan,
     faults: u64,
     failed: bool,
 }
@@ -37,7 +37,7 @@ impl MemFiles {
     {
         Ok(MemFiles {
             entries: Vec::new(alloc),
-            plan: Plan::new(alloc),
+            plan: FailurePlan::new(alloc),
             faults: 0,
             failed: false,
         })

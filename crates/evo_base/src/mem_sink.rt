@@ -2,7 +2,7 @@ ghost use Rattle.std.specs.Prelude.{vec_len, vec_capacity, ◌++◌, ◌+◌, �
 ghost use Rattle.evo_base.specs.Causes.{HasCause};
 ghost use Rattle.evo_base.specs.Content.{Writes};
 
-use crate::plan::Plan;
+use crate::plan::FailurePlan;
 use crate::{Failed, Sink};
 use std::alloc::{AllocError, Global};
 use std::marker::Model;
@@ -12,7 +12,7 @@ use std::marker::Model;
 pub struct MemSink {
     bytes: Vec<u8>,
     room: u64,
-    plan: Plan,
+    plan: FailurePlan,
     faults: u64,
     failed: bool,
 }
@@ -39,7 +39,7 @@ impl MemSink {
         Ok(MemSink {
             bytes: Vec::with_capacity(alloc, room as usize)?,
             room,
-            plan: Plan::new(alloc),
+            plan: FailurePlan::new(alloc),
             faults: 0,
             failed: false,
         })

@@ -28,7 +28,7 @@ use Rattle.evo_machine.specs.Image.{Loads, symbols_of, number_of, start_symbol}
 use Rattle.evo_build.specs.declared.object.Object.{Object}
 use Rattle.evo_build.specs.Meaning.{Program, Side, client_side, library_side, body_of, written_body, on_library, on_client, run_of}
 use Rattle.evo_build.specs.Objects.{symbol_of, copy_symbol, client_symbol, function_of, library_functions, copy_functions, start_function, needed, imports_of}
-use Rattle.evo_build.specs.Works.{AreTimed, DoesAs, AreExported, exports, linked, IsClientObject, WorksWithEvery}
+use Rattle.evo_build.specs.Works.{AreTimed, DoesResult, AreExported, exports, linked, IsClientObject, WorksWithEvery}
 use Rattle.evo_build.proofs.Images.{Names, get-front, get-behind, numbered, same_name, library_symbols, copy_symbols, all_symbols, all_distinct, library_at, copy_at, timed-append, library-timed, copies-timed, one-timed}
 use Rattle.evo_build.proofs.Simulates.{Calls, GoodTerm, Known, GoodTerms, GoodPrints, does}
 
@@ -318,7 +318,7 @@ module _ (old : Interface) (fs : List Declared) (prints : List Print) (copies : 
   prints_good [] h c = tt
   prints_good (x ∷ ps) h c = let p = terms_good x.terms (calls_of ps) h c in (p.0, prints_good ps p.1 p.2)
 
-  image_does : (ticks : ℕ) → DoesAs image ticks (run_of program prints ticks)
+  image_does : (ticks : ℕ) → DoesResult image ticks (run_of program prints ticks)
   image_does = does image program symbols Good known prints number named found (prints_good prints called facts.client)
 
   loads : Loads image
@@ -354,7 +354,7 @@ works old client object interface accepted is fs library good keeps lib =
         library_needs = subst (AreExported object.functions.items) (sym lib.needs_nothing) tt;
         client_needs = exported;
       },
-      λ ticks. subst (λ (l : List Function). DoesAs l ticks (run_of (record { old = old.functions; new = fs }) client.prints ticks)) (sym whole) (image_does old fs client.prints is.copies good keeps interface accepted.known facts ticks),
+      λ ticks. subst (λ (l : List Function). DoesResult l ticks (run_of (record { old = old.functions; new = fs }) client.prints ticks)) (sym whole) (image_does old fs client.prints is.copies good keeps interface accepted.known facts ticks),
     )
 
 -- each function of a client's object begins with a tick

@@ -21,7 +21,7 @@ use Rattle.evo_machine.specs.Machine.{Run, Step, Goes, Writes, Ends, Reaches, en
 use Rattle.evo_machine.specs.declared.machine.MachineFault.TheVariants as why
 use Rattle.evo_build.specs.Meaning.{Program, Side, client_side, Body, body_of, Evaluated, gives, stops, Ending, done, spent, stuck, value_of, entered, not_entered, call_of, values_of, with_value, and_then, line_of, prints_of, printed, run_of}
 use Rattle.evo_build.specs.Objects.{function_of, term_code, terms_code, slots_of, print_code, prints_code, most_terms, start_function}
-use Rattle.evo_build.specs.Works.{EndsAs, DoesAs}
+use Rattle.evo_build.specs.Works.{EndsResult, DoesResult}
 
 le_one : 0 + 1 ≤ 1
 le_one = omega arith
@@ -135,7 +135,7 @@ pub record Known (image : List Function) (p : Program) (symbols : Side → List 
   pub found : slice_get image number ≡ Some (function_of (symbols side name) exported (symbols body.side) body.term)
 
 -- a frame stands at this instruction
-record At_instr (image : List Function) (frame : Frame) (i : Instr) : Type 0 where
+record AtInstr (image : List Function) (frame : Frame) (i : Instr) : Type 0 where
   function : Function
   found : slice_get image frame.function ≡ Some function
   here : slice_get function.code frame.at ≡ Some i
@@ -156,15 +156,15 @@ module _ (image : List Function) (p : Program) (symbols : Side → List ℕ → 
   ValueDoes frame below t slot (stops spent) = Reaches image (on frame below t) out_of_ticks
   ValueDoes frame below t slot (stops stuck) = ⊥
 
-  step_here : (frame : Frame) (below : List Frame) (t : ℕ) (i : Instr) (a : At_instr image frame i) → step image (on frame below t) ≡ act image (Some a.function) (Some i) (on frame below t)
+  step_here : (frame : Frame) (below : List Frame) (t : ℕ) (i : Instr) (a : AtInstr image frame i) → step image (on frame below t) ≡ act image (Some a.function) (Some i) (on frame below t)
   step_here frame below t i a = step_at image (on frame below t) a.function i a.found a.here
 
-  int_does : (frame : Frame) (below : List Frame) (t slot n : ℕ) → At_instr image frame (Op.Int slot n) → slot + 1 ≤ length frame.words → ValueDoes frame below t slot (gives n t)
+  int_does : (frame : Frame) (below : List Frame) (t slot n : ℕ) → AtInstr image frame (Op.Int slot n) → slot + 1 ≤ length frame.words → ValueDoes frame below t slot (gives n t)
   int_does frame below t slot n a fits run r = goes (step_here frame below t (Op.Int slot n) a ∙ picks _ _ _ (le_true (slot + 1) (length frame.words) fits)) r
 
   -- a call, its callee's frame, and what the caller goes on with
   module _ (side : Side) (name : List ℕ) (k : Known image p symbols Good side name) (frame : Frame) (below : List Frame) (slot : ℕ)
-      (a : At_instr image frame (Op.Call (symbols side name) slot 1)) (fits : slot + 1 ≤ length frame.words) where
+      (a : AtInstr image frame (Op.Call (symbols side name) slot 1)) (fits : slot + 1 ≤ length frame.words) where
     abbrev callee : Function
     callee = function_of (symbols side name) k.exported (symbols k.body.side) k.body.term
 
@@ -200,17 +200,17 @@ module _ (image : List Function) (p : Program) (symbols : Side → List ℕ → 
     through left (stops spent) h = begins left out_of_ticks h
     through left (stops stuck) h = absurd h
 
-    body_at : At_instr image (inner 1 (Empty ∷ [])) (term_code (symbols k.body.side) 0 k.body.term)
+    body_at : AtInstr image (inner 1 (Empty ∷ [])) (term_code (symbols k.body.side) 0 k.body.term)
     body_at = record { function = callee; found = k.found; here = refl }
 
   -- a term, where its calls do what they give
-  term_does : (side : Side) (term : Term) (frame : Frame) (below : List Frame) (t slot : ℕ) → GoodTerm Good side term → At_instr image frame (term_code (symbols side) slot term) → slot + 1 ≤ length frame.words
-      → ((name : List ℕ) → Good side name → At_instr image frame (Op.Call (symbols side name) slot 1) → ValueDoes frame below t slot (call_of p t side name))
+  term_does : (side : Side) (term : Term) (frame : Frame) (below : List Frame) (t slot : ℕ) → GoodTerm Good side term → AtInstr image frame (term_code (symbols side) slot term) → slot + 1 ≤ length frame.words
+      → ((name : List ℕ) → Good side name → AtInstr image frame (Op.Call (symbols side name) slot 1) → ValueDoes frame below t slot (call_of p t side name))
       → ValueDoes frame below t slot (value_of term t (call_of p t side))
   term_does side (Integer n) frame below t slot good a fits calls = int_does frame below t slot n a fits
   term_does side (Call name) frame below t slot good a fits calls = calls name good a
 
-  call_does : (t : ℕ) (side : Side) (name : List ℕ) → Good side name → (frame : Frame) (below : List Frame) (slot : ℕ) → At_instr image frame (Op.Call (symbols side name) slot 1) → slot + 1 ≤ length frame.words
+  call_does : (t : ℕ) (side : Side) (name : List ℕ) → Good side name → (frame : Frame) (below : List Frame) (slot : ℕ) → AtInstr image frame (Op.Call (symbols side name) slot 1) → slot + 1 ≤ length frame.words
       → ValueDoes frame below t slot (call_of p t side name)
   call_does zero side name good frame below slot a fits =
       let k = known side name good in
@@ -276,7 +276,7 @@ module _ (image : List Function) (p : Program) (symbols : Side → List ℕ → 
     terms_do (x ∷ ts) at k t before [] e fits code good = absurd (omega arith)
     terms_do (x ∷ ts) at k t before (w ∷ rest) e fits code good =
         let room : k + 1 ≤ length (filled before (w ∷ rest)) = omega (arith, filled-length before (w ∷ rest)) in
-        let a : At_instr image (top at (filled before (w ∷ rest))) (term_code (symbols client_side) k x) = record { function = start; found = found; here = code.0 } in
+        let a : AtInstr image (top at (filled before (w ∷ rest))) (term_code (symbols client_side) k x) = record { function = start; found = found; here = code.0 } in
         by_value at k t x ts before w rest e (value_of x t (call_of p t client_side))
         (term_does client_side x (top at (filled before (w ∷ rest))) [] t k good.0 a room (λ name g b. call_does t client_side name g (top at (filled before (w ∷ rest))) [] k b room))
         (λ n left. terms_do ts (at + 1) (k + 1) left (before ++ n ∷ []) rest (ap (λ (m : ℕ). m + 1) e ∙ sym (length-append before (n ∷ []))) (omega arith) code.1 good.1)
@@ -391,12 +391,12 @@ module _ (image : List Function) (p : Program) (symbols : Side → List ℕ → 
   executes : (ticks : ℕ) (run : Run) → Reaches image (begin 0 ticks) run → Executes image ticks run
   executes ticks run r = record { number = number; function = start; named = named; found = found; reaches = r }
 
-  by_ending : (t : ℕ) (out : List ℕ) (e : Ending) → Does image p symbols Good known number start found (begin 1 t) out e → EndsAs image (suc t) out e
+  by_ending : (t : ℕ) (out : List ℕ) (e : Ending) → Does image p symbols Good known number start found (begin 1 t) out e → EndsResult image (suc t) out e
   by_ending t out done h = executes (suc t) _ (goes (step_at image (begin 0 (suc t)) start Op.Tick found refl) h)
   by_ending t out spent h = executes (suc t) _ (goes (step_at image (begin 0 (suc t)) start Op.Tick found refl) h)
   by_ending t out stuck h = h
 
-  pub does : (ticks : ℕ) → DoesAs image ticks (run_of p ps ticks)
+  pub does : (ticks : ℕ) → DoesResult image ticks (run_of p ps ticks)
   does zero = executes 0 _ (ends (step_at image (begin 0 0) start Op.Tick found refl))
   does (suc t) = by_ending t _ _
       (prints_do image p symbols Good known number start found ps 1 t words

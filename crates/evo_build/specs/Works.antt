@@ -18,13 +18,13 @@ use Rattle.evo_build.specs.Meaning.{Ran, Ending, done, spent, stuck, run_of}
 use Rattle.evo_build.specs.Objects.{library_functions, client_symbol, copy_functions, start_function, imports_of}
 
 -- the image's run prints and ends so; nothing stands for a run that is stuck
-abbrev pub EndsAs : List Function → ℕ → List ℕ → Ending → Type 0
-EndsAs image ticks out done = Executes image ticks (record { out = out; ending = Done })
-EndsAs image ticks out spent = Executes image ticks (record { out = out; ending = Budget })
-EndsAs image ticks out stuck = ⊥
+abbrev pub EndsResult : List Function → ℕ → List ℕ → Ending → Type 0
+EndsResult image ticks out done = Executes image ticks (record { out = out; ending = Done })
+EndsResult image ticks out spent = Executes image ticks (record { out = out; ending = Budget })
+EndsResult image ticks out stuck = ⊥
 
-abbrev pub DoesAs : List Function → ℕ → Ran → Type 0
-DoesAs image ticks ran = EndsAs image ticks ran.out ran.ending
+abbrev pub DoesResult : List Function → ℕ → Ran → Type 0
+DoesResult image ticks ran = EndsResult image ticks ran.out ran.ending
 
 -- the object of a library: its functions, and nothing that it needs
 pub record IsLibraryObject (library : List ℕ) (functions : List Declared) (object : Object) : Type 0 where
@@ -68,4 +68,4 @@ pub record LinksWith (library client : Object) : Type 0 where
 abbrev pub WorksWithEvery : Interface → Client → Object → Type 0
 WorksWithEvery old client object =
     (functions : List Declared) (library : Object) → IsAcceptedLibrary old.name functions → BreaksNoRule old (interface_of old.name functions) → IsLibraryObject old.name functions library
-    → LinksWith library object × ((ticks : ℕ) → DoesAs (linked library object) ticks (run_of (record { old = old.functions; new = functions }) client.prints ticks))
+    → LinksWith library object × ((ticks : ℕ) → DoesResult (linked library object) ticks (run_of (record { old = old.functions; new = functions }) client.prints ticks))

@@ -5,14 +5,14 @@ use Rattle.std.proofs.lemmas.Bool.Decides.{Decides-eqb}
 use Rattle.evo_combinators.specs.declared.Fault.{Fault}
 use Rattle.evo_combinators.specs.declared.Fault.TheVariants.{Grammar, Deep}
 use Rattle.evo_combinators.specs.Reader.{Outcome, Reader, and_then, ◌>>=◌, pure}
-use Rattle.evo_combinators.specs.Rule.{Only, Or, Then, Goes}
+use Rattle.evo_combinators.specs.Rule.{Empty, Or, Then, IsViablePrefix}
 use Rattle.evo_combinators.specs.Guard.{starts, on, Run, run_from, run}
 use Rattle.evo_combinators.specs.Attempt.{attempted, attempt, further, tries_from, tries}
-use Rattle.evo_combinators.specs.Laws.{Begins, Deeper, Like, Right, Same, first, of_first}
-use Rattle.evo_combinators.proofs.Laws.{Like-refl, right_ext, right_map, right_pure, right_stop, split_err}
+use Rattle.evo_combinators.specs.Laws.{Begins, GrowsWithNesting, SameLookahead, ReadsRule, Same, first, of_first}
+use Rattle.evo_combinators.proofs.Laws.{SameLookahead-refl, right_ext, right_map, right_pure, right_stop, split_err}
 use Rattle.evo_combinators.proofs.GuardLaws.{starts_is, right_on, which}
 use Rattle.evo_combinators.proofs.RunLaws.{right_run}
-use Rattle.evo_combinators.proofs.Deeper.{deeper_then, same_refl}
+use Rattle.evo_combinators.proofs.GrowsWithNesting.{deeper_then, same_refl}
 
 -- the outcome of one token is that it is refused
 abbrev is_refusal : {T A : Type 0} → Outcome T A → Bool
@@ -52,18 +52,18 @@ first_same : {T : Type 0} (t u : T) (ts us rest vs : List T) → t ∷ ts ≡ us
 first_same t u ts us rest vs cut is = let both = sym (ap first (cut ∙ ap (λ x. x ++ rest) is)) in cc
 
 module _ {T A : Type 0} (Stop : Option T → Type 0) (S W : List T → A → Type 0) (p : Reader T A)
-    (right : (n : ℕ) → Right n Stop S W p) (some : (a : A) → S [] a → ⊥) where
+    (right : (n : ℕ) → ReadsRule n Stop S W p) (some : (a : A) → S [] a → ⊥) where
   -- the first token is refused whatever follows
   at_first : (t : T) (us vs : List T) → p (t ∷ us) ≡ Err (Grammar (suc (length us))) → p (t ∷ vs) ≡ Err (Grammar (suc (length vs)))
   at_first t us vs e =
       let n = length (t ∷ us) + length (t ∷ vs) in
       let (us', rest, cut, goes, again) = (right n).refuses (t ∷ us) (suc (length us)) (omega arith) e in
-      let here = again rest (subst (λ x. length x ≤ n) cut (omega arith)) (Like-refl rest) in
+      let here = again rest (subst (λ x. length x ≤ n) cut (omega arith)) (SameLookahead-refl rest) in
       let count : suc (length us) ≡ length rest = let both = sym e ∙ ap p cut ∙ here in cc in
       go us' rest cut count again
     where
       go : (us' rest : List T) → t ∷ us ≡ us' ++ rest → suc (length us) ≡ length rest →
-          ((more : List T) → length (us' ++ more) ≤ length (t ∷ us) + length (t ∷ vs) → Like rest more → p (us' ++ more) ≡ Err (Grammar (length more))) →
+          ((more : List T) → length (us' ++ more) ≤ length (t ∷ us) + length (t ∷ vs) → SameLookahead rest more → p (us' ++ more) ≡ Err (Grammar (length more))) →
           p (t ∷ vs) ≡ Err (Grammar (suc (length vs)))
       go [] rest cut count again = again (t ∷ vs) (omega arith) (inr (ap first cut))
       go (u ∷ us') rest cut count again = absurd (omega (arith, ap length cut, length-append us' rest))
@@ -80,7 +80,7 @@ module _ {T A : Type 0} (Stop : Option T → Type 0) (S W : List T → A → Typ
       go (Ok (a, rest)) e = let (us, cut, s, again) = (right 0).sound [] rest a (omega arith) e in absurd (none us rest a cut s)
       go (Err (Grammar k)) e =
           let (us, rest, cut, goes, again) = (right 0).refuses [] k (omega arith) e in
-          let here = again rest (subst (λ x. length x ≤ 0) cut (omega arith)) (Like-refl rest) in
+          let here = again rest (subst (λ x. length x ≤ 0) cut (omega arith)) (SameLookahead-refl rest) in
           let count : length rest ≡ 0 = omega (arith, ap length cut, length-append us rest) in
           ap p cut ∙ here ∙ ap (λ n. Err (Grammar n)) count
       go (Err (Deep k)) e =
@@ -106,7 +106,7 @@ module _ {T A : Type 0} (Stop : Option T → Type 0) (S W : List T → A → Typ
   enters_begins : (P : T → Type 0) → Begins P W → (t : T) → enters p t ≡ true → P t
   enters_begins P begins t is = go (p (t ∷ [])) refl
     where
-      refused : (us rest : List T) → t ∷ [] ≡ us ++ rest → p (us ++ rest) ≡ Err (Grammar (length rest)) → (us ≡ []) ⊎ Goes W us → P t
+      refused : (us rest : List T) → t ∷ [] ≡ us ++ rest → p (us ++ rest) ≡ Err (Grammar (length rest)) → (us ≡ []) ⊎ IsViablePrefix W us → P t
       refused [] rest cut e goes = absurd (enters_yes t [] is (ap p cut ∙ e ∙ ap (λ x. Err (Grammar (length x))) (sym cut)))
       refused (u ∷ us) rest cut e (inl none) = absurd (cc)
       refused (u ∷ us) rest cut e (inr (more, a, w)) =
@@ -115,7 +115,7 @@ module _ {T A : Type 0} (Stop : Option T → Type 0) (S W : List T → A → Typ
           let same' : t' ≡ u = first_same u t' (us ++ more) ((u ∷ us) ++ more) [] vs (sym (append-nil ((u ∷ us) ++ more))) cut' in
           subst P (same' ∙ same) h
 
-      deep : (us rest : List T) (t' : T) → t ∷ [] ≡ us ++ t' ∷ rest → Goes W (us ++ t' ∷ []) → P t
+      deep : (us rest : List T) (t' : T) → t ∷ [] ≡ us ++ t' ∷ rest → IsViablePrefix W (us ++ t' ∷ []) → P t
       deep [] rest t' cut (more, a, w) =
           let (u, vs, cut', h) = begins (t' ∷ more) a w in
           let same : u ≡ t' = first_same t' u more (t' ∷ more) [] vs (sym (append-nil (t' ∷ more))) cut' in
@@ -135,7 +135,7 @@ module _ {T A : Type 0} (Stop : Option T → Type 0) (S W : List T → A → Typ
           subst P (first_same t u [] us rest vs cut cut') h
       go (Err (Grammar k)) e =
           let (us, rest, cut, goes, again) = (right 1).refuses (t ∷ []) k (omega arith) e in
-          refused us rest cut (again rest (subst (λ x. length x ≤ 1) cut (omega arith)) (Like-refl rest)) goes
+          refused us rest cut (again rest (subst (λ x. length x ≤ 1) cut (omega arith)) (SameLookahead-refl rest)) goes
       go (Err (Deep k)) e =
           let (us, t', rest, cut, goes, opens, again) = (right 1).deepens (t ∷ []) k (omega arith) e in deep us rest t' cut opens
 
@@ -149,7 +149,7 @@ module _ {T A : Type 0} (Stop : Option T → Type 0) (S W : List T → A → Typ
   attempt_end = ap (λ o. attempted o []) at_end ∙ attempted_none []
 
   abbrev Maybe : (List T → A → Type 0) → List T → Option A → Type 0
-  Maybe R = Or (Then R (λ a. Only (Some a))) (Only None)
+  Maybe R = Or (Then R (λ a. Empty (Some a))) (Empty None)
 
   module _ (End : Option T → Type 0) (P : T → Type 0) (begins : Begins P W) (ended : End None)
       (ends : (x : Option T) → End x → Stop x) (shut : (t : T) → End (Some t) → P t → ⊥) where
@@ -169,10 +169,10 @@ module _ {T A : Type 0} (Stop : Option T → Type 0) (S W : List T → A → Typ
     nonempty [] a s = absurd (some a s)
     nonempty (t ∷ us) a s = (t, us, refl, enters_of t us a s)
 
-    pub right_attempt : (n : ℕ) → Right n End (Maybe S) (Maybe W) (attempt p)
+    pub right_attempt : (n : ℕ) → ReadsRule n End (Maybe S) (Maybe W) (attempt p)
     right_attempt n =
         right_ext n End (Maybe S) (Maybe W) (on (enters p) (p >>= (λ a. pure (Some a))) (pure None)) (attempt p) (λ ts fits. attempt_is ts)
-        (right_on n End (enters p) (Then S (λ a. Only (Some a))) (Then W (λ a. Only (Some a))) (Only None) (Only None) (p >>= (λ a. pure (Some a))) (pure None)
+        (right_on n End (enters p) (Then S (λ a. Empty (Some a))) (Then W (λ a. Empty (Some a))) (Empty None) (Empty None) (p >>= (λ a. pure (Some a))) (pure None)
         (right_stop n Stop End _ _ _ ends ended (right_map n Stop S W p (λ a. Some a) (right n))) (right_pure n End ended None)
         (λ us b (a, vs, ws, cut, s, r). let (t, xs, cut', is) = nonempty vs a s in (t, xs ++ ws, cut ∙ ap (λ x. x ++ ws) cut', is))
         (λ t us fits is bad. elim (split_err (p (t ∷ us)) (λ a. pure (Some a)) (Grammar (suc (length us))) bad) [
@@ -184,7 +184,7 @@ module _ {T A : Type 0} (Stop : Option T → Type 0) (S W : List T → A → Typ
 -- ---- any number
 
 module _ {T B St : Type 0} (Stop StopQ : Option T → Type 0) (S S' : St → List T → B → Type 0) (q : St → Reader T B) (next : St → B → St) (P : St → T → Type 0)
-    (right_q : (n : ℕ) (s : St) → Right n StopQ (S s) (S' s) (q s)) (some : (s : St) (b : B) → S s [] b → ⊥)
+    (right_q : (n : ℕ) (s : St) → ReadsRule n StopQ (S s) (S' s) (q s)) (some : (s : St) (b : B) → S s [] b → ⊥)
     (begins : (s : St) → Begins (P s) (S' s)) (ended : Stop None) (shut : (s : St) (t : T) → Stop (Some t) → P s t → ⊥)
     (ends : (x : Option T) → Stop x → StopQ x) (follow : (s : St) (b : B) (t : T) → P (next s b) t → StopQ (Some t)) where
   abbrev G : St → T → Bool
@@ -239,29 +239,29 @@ module _ {T B St : Type 0} (Stop StopQ : Option T → Type 0) (S S' : St → Lis
   stops_at s None stop = refl
   stops_at s (Some t) stop = elim (which (G s t)) [ inl is ↦ absurd (shut s t stop (enters_at s t is)) | inr isnt ↦ isnt ]
 
-  pub right_tries : (n : ℕ) (s : St) → Right n Stop (Run S next s) (Run S' next s) (tries q next s)
+  pub right_tries : (n : ℕ) (s : St) → ReadsRule n Stop (Run S next s) (Run S' next s) (tries q next s)
   right_tries n s =
       right_ext n Stop (Run S next s) (Run S' next s) (run G q next s) (tries q next s) (λ ts fits. tries_same s ts)
       (right_run Stop StopQ G S S' q next right_q begun entered ended stops_at ends (λ s b t is. follow s b t (enters_at (next s b) t is)) n s)
 
 -- ---- where more nesting is allowed
 
-pub deeper_attempt : {T A : Type 0} (p p' : Reader T A) → Deeper p p' → Deeper (attempt p) (attempt p')
+pub deeper_attempt : {T A : Type 0} (p p' : Reader T A) → GrowsWithNesting p p' → GrowsWithNesting (attempt p) (attempt p')
 deeper_attempt p p' deeper ts = elim (deeper ts) [
   | inl e ↦ inl (ap (λ o. attempted o ts) e)
   | inr (k, e) ↦ inr (k, ap (λ o. attempted o ts) e)
 ]
 
-deeper_further : {T B : Type 0} (later later' : B → Reader T (List B)) → ((b : B) → Deeper (later b) (later' b)) → (o : Option B) → Deeper (further later o) (further later' o)
+deeper_further : {T B : Type 0} (later later' : B → Reader T (List B)) → ((b : B) → GrowsWithNesting (later b) (later' b)) → (o : Option B) → GrowsWithNesting (further later o) (further later' o)
 deeper_further later later' deeper None = same_refl (pure [])
 deeper_further later later' deeper (Some b) = deeper b
 
-module _ {T B St : Type 0} (q q' : St → Reader T B) (next : St → B → St) (dq : (s : St) → Deeper (q s) (q' s)) where
-  deeper_from : (n : ℕ) (s : St) → Deeper (tries_from q next n s) (tries_from q' next n s)
+module _ {T B St : Type 0} (q q' : St → Reader T B) (next : St → B → St) (dq : (s : St) → GrowsWithNesting (q s) (q' s)) where
+  deeper_from : (n : ℕ) (s : St) → GrowsWithNesting (tries_from q next n s) (tries_from q' next n s)
   deeper_from zero s = same_refl (pure [])
   deeper_from (suc n) s = deeper_then (attempt (q s)) (attempt (q' s)) _ _ (deeper_attempt (q s) (q' s) (dq s))
       (deeper_further _ _ (λ b. deeper_then (tries_from q next n (next s b)) (tries_from q' next n (next s b)) _ _ (deeper_from n (next s b)) (λ bs. same_refl (pure (b ∷ bs)))))
 
-  pub deeper_tries : (s : St) → Deeper (tries q next s) (tries q' next s)
+  pub deeper_tries : (s : St) → GrowsWithNesting (tries q next s) (tries q' next s)
   unfolding tries
   deeper_tries s ts = deeper_from (length ts) s ts

@@ -3,21 +3,21 @@ use Rattle.std.specs.Prelude.{◌≡◌, ℕ, suc, ◌≤◌, List, [], ◌∷�
 use Rattle.std.proofs.Common.{sym, ◌∙◌, ap, subst, inl, inr, arith, length-append}
 use Rattle.evo_combinators.specs.declared.Fault.TheVariants.{Grammar}
 use Rattle.evo_combinators.specs.Reader.{Reader, ◌>>=◌, alt, lead, branch, paired, bar, barred}
-use Rattle.evo_combinators.proofs.Laws.{Like-refl, split_err}
-use Rattle.evo_combinators.specs.Laws.{Right, Takes}
+use Rattle.evo_combinators.proofs.Laws.{SameLookahead-refl, split_err}
+use Rattle.evo_combinators.specs.Laws.{ReadsRule, Takes}
 
 -- what is refused stands among the tokens
-module _ {T A : Type 0} (Stop : Option T → Type 0) (S W : List T → A → Type 0) (p : Reader T A) (right : (n : ℕ) → Right n Stop S W p) where
+module _ {T A : Type 0} (Stop : Option T → Type 0) (S W : List T → A → Type 0) (p : Reader T A) (right : (n : ℕ) → ReadsRule n Stop S W p) where
   pub refused_within : (ts : List T) (k : ℕ) → p ts ≡ Err (Grammar k) → k ≤ length ts
   refused_within ts k e =
       let n = length ts in
       let (us, rest, cut, goes, again) = (right n).refuses ts k (omega arith) e in
-      let here = again rest (subst (λ x. length x ≤ n) cut (omega arith)) (Like-refl rest) in
+      let here = again rest (subst (λ x. length x ≤ n) cut (omega arith)) (SameLookahead-refl rest) in
       let count : k ≡ length rest = let both = sym e ∙ ap p cut ∙ here in cc in
       omega (arith, ap length cut, length-append us rest)
 
 pub takes_alt : {T A B : Type 0} (Stop : Option T → Type 0) (S W : A → List T → B → Type 0) (f : T → Option A) (q : A → Reader T B) (r : Reader T B) (t : T) →
-    ((a : A) (n : ℕ) → Right n Stop (S a) (W a) (q a)) → (f t ≡ None → Takes r t) → Takes (alt f q r) t
+    ((a : A) (n : ℕ) → ReadsRule n Stop (S a) (W a) (q a)) → (f t ≡ None → Takes r t) → Takes (alt f q r) t
 unfolding lead
 takes_alt {T} {A} {B} Stop S W f q r t right later us = go (f t) refl
   where
@@ -34,7 +34,7 @@ takes_bar {T} {A} {B} f r t later us = go (f t) refl
     go None is e = later is us e
 
 pub takes_then : {T A B : Type 0} (StopS StopR : Option T → Type 0) (S S' : List T → A → Type 0) (R R' : A → List T → B → Type 0) (p : Reader T A) (q : A → Reader T B) (t : T) →
-    ((n : ℕ) → Right n StopS S S' p) → ((a : A) (n : ℕ) → Right n StopR (R a) (R' a) (q a)) → ((a : A) → S [] a → ⊥) → Takes p t → Takes (p >>= q) t
+    ((n : ℕ) → ReadsRule n StopS S S' p) → ((a : A) (n : ℕ) → ReadsRule n StopR (R a) (R' a) (q a)) → ((a : A) → S [] a → ⊥) → Takes p t → Takes (p >>= q) t
 takes_then {T} {A} {B} StopS StopR S S' R R' p q t right_p right_q some takes us e = elim (split_err (p (t ∷ us)) q (Grammar (suc (length us))) e) [
   | inl here ↦ takes us here
   | inr (a, mid, is, bad) ↦

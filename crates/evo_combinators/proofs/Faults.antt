@@ -5,9 +5,9 @@ use Rattle.std.proofs.Math.Nat.{le_refl}
 use Rattle.std.proofs.lemmas.List.{append_cancel_right}
 use Rattle.evo_combinators.specs.declared.Fault.TheVariants.{Grammar, Deep}
 use Rattle.evo_combinators.specs.Reader.{Outcome, Reader}
-use Rattle.evo_combinators.specs.Rule.{Goes}
-use Rattle.evo_combinators.proofs.Laws.{Like-refl}
-use Rattle.evo_combinators.specs.Laws.{Ends, Grammar_of, Like}
+use Rattle.evo_combinators.specs.Rule.{IsViablePrefix}
+use Rattle.evo_combinators.proofs.Laws.{SameLookahead-refl}
+use Rattle.evo_combinators.specs.Laws.{Ends, GrammarOf, SameLookahead}
 
 cut_same : {T : Type 0} (us vs xs ys : List T) → us ++ xs ≡ vs ++ ys → length xs ≡ length ys → (us ≡ vs) × (xs ≡ ys)
 cut_same [] [] xs ys e is = (refl, e)
@@ -19,7 +19,7 @@ cut_same (u ∷ us) (v ∷ vs) xs ys e is =
     let parts = cut_same us vs xs ys tail is in
     (ap₂ (λ x y. x ∷ y) head parts.0, parts.1)
 
-module _ {T A : Type 0} (Stop : Option T → Type 0) (S : ℕ → List T → A → Type 0) (p : ℕ → Reader T A) (gram : Grammar_of Stop S p) where
+module _ {T A : Type 0} (Stop : Option T → Type 0) (S : ℕ → List T → A → Type 0) (p : ℕ → Reader T A) (gram : GrammarOf Stop S p) where
   wider_by : (d k : ℕ) (us : List T) (a : A) → S d us a → S (d + k) us a
   wider_by d zero us a s = let e : d ≡ d + 0 = omega arith in subst (λ x. S x us a) e s
   wider_by d (suc k) us a s = let e : suc (d + k) ≡ d + suc k = omega arith in
@@ -55,7 +55,7 @@ module _ {T A : Type 0} (Stop : Option T → Type 0) (S : ℕ → List T → A �
       ((b : A) → o ≡ Ok (b, []) → ⊥) → S m (us ++ more) a → ⊥
   stuck d m us more a o e fine not s = not a (clash d m (us ++ more) a o e fine s)
 
-  ok_again : (d : ℕ) (ts rest us : List T) (a : A) → p d ts ≡ Ok (a, rest) → ts ≡ us ++ rest → (more : List T) → Like rest more → p d (us ++ more) ≡ Ok (a, more)
+  ok_again : (d : ℕ) (ts rest us : List T) (a : A) → p d ts ≡ Ok (a, rest) → ts ≡ us ++ rest → (more : List T) → SameLookahead rest more → p d (us ++ more) ≡ Ok (a, more)
   ok_again d ts rest us a e cut more like =
       let n = length ts + length (us ++ more) in
       let (us', cut', s', again') = (gram.right d n).sound ts rest a (omega arith) e in
@@ -75,24 +75,24 @@ module _ {T A : Type 0} (Stop : Option T → Type 0) (S : ℕ → List T → A �
             (subst (λ x. S m x b) (append_assoc us (g ∷ []) w) r),
       )
 
-  grammar_again : (d : ℕ) (ts us rest : List T) (k : ℕ) → p d ts ≡ Err (Grammar k) → ts ≡ us ++ rest → k ≡ length rest → (more : List T) → Like rest more →
+  grammar_again : (d : ℕ) (ts us rest : List T) (k : ℕ) → p d ts ≡ Err (Grammar k) → ts ≡ us ++ rest → k ≡ length rest → (more : List T) → SameLookahead rest more →
       p d (us ++ more) ≡ Err (Grammar (length more))
   grammar_again d ts us rest k e cut is more like =
       let n = length ts + length (us ++ more) in
       let (us', rest', cut', goes', again') = (gram.right d n).refuses ts k (omega arith) e in
       let here = ap (p d) (sym cut') ∙ e in
-      let there = again' rest' (subst (λ x. length x ≤ n) cut' (omega arith)) (Like-refl rest') in
+      let there = again' rest' (subst (λ x. length x ≤ n) cut' (omega arith)) (SameLookahead-refl rest') in
       let size : length rest' ≡ k = let eq = sym there ∙ here in cc in
       let parts = cut_same us' us rest' rest (sym cut' ∙ cut) (size ∙ is) in
-      ap (λ x. p d (x ++ more)) (sym parts.0) ∙ again' more (subst (λ x. length (x ++ more) ≤ n) (sym parts.0) (omega arith)) (subst (λ x. Like x more) (sym parts.1) like)
+      ap (λ x. p d (x ++ more)) (sym parts.0) ∙ again' more (subst (λ x. length (x ++ more) ≤ n) (sym parts.0) (omega arith)) (subst (λ x. SameLookahead x more) (sym parts.1) like)
 
   -- where nothing is read, spellings go on with the tokens before that place, none with the next one too, and none ends there
   pub grammar_says : (d : ℕ) (ts : List T) (k : ℕ) → p d ts ≡ Err (Grammar k) →
-      (us : List T) × (rest : List T) × (ts ≡ us ++ rest) × (k ≡ length rest) × ((us ≡ []) ⊎ Goes (S (suc d)) us) × Ends S us rest × ((m : ℕ) (a : A) → S m us a → ⊥)
+      (us : List T) × (rest : List T) × (ts ≡ us ++ rest) × (k ≡ length rest) × ((us ≡ []) ⊎ IsViablePrefix (S (suc d)) us) × Ends S us rest × ((m : ℕ) (a : A) → S m us a → ⊥)
   grammar_says d ts k e =
       let n = length ts in
       let (us, rest, cut, goes, again) = (gram.right d n).refuses ts k (le_refl n) e in
-      let there = again rest (subst (λ x. length x ≤ n) cut (le_refl n)) (Like-refl rest) in
+      let there = again rest (subst (λ x. length x ≤ n) cut (le_refl n)) (SameLookahead-refl rest) in
       let is : k ≡ length rest = let eq = sym e ∙ ap (p d) cut ∙ there in cc in (
         us,
         rest,
@@ -121,8 +121,8 @@ module _ {T A : Type 0} (Stop : Option T → Type 0) (S : ℕ → List T → A �
 
   -- where nesting is too deep, spellings of more nesting go on with the token, and none of this nesting does
   pub deep_says : (d : ℕ) (ts : List T) (k : ℕ) → p d ts ≡ Err (Deep k) →
-      (us : List T) × (t : T) × (rest : List T) × (ts ≡ us ++ t ∷ rest) × (k ≡ suc (length rest)) × ((us ≡ []) ⊎ Goes (S (suc d)) us)
-      × Goes (S (suc d)) (us ++ t ∷ []) × (Goes (S d) (us ++ t ∷ []) → ⊥)
+      (us : List T) × (t : T) × (rest : List T) × (ts ≡ us ++ t ∷ rest) × (k ≡ suc (length rest)) × ((us ≡ []) ⊎ IsViablePrefix (S (suc d)) us)
+      × IsViablePrefix (S (suc d)) (us ++ t ∷ []) × (IsViablePrefix (S d) (us ++ t ∷ []) → ⊥)
   deep_says d ts k e =
       let n = length ts in
       let (us, t, rest, cut, goes, opens, again) = (gram.right d n).deepens ts k (le_refl n) e in

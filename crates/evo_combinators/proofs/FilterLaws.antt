@@ -3,14 +3,14 @@ use Rattle.std.specs.Prelude.{◌≡◌, ℕ, suc, ◌+◌, ◌≤◌, Bool, tru
 use Rattle.std.proofs.Common.{sym, ◌∙◌, ap, subst, inl, inr, arith}
 use Rattle.evo_combinators.specs.declared.Fault.TheVariants.{Grammar}
 use Rattle.evo_combinators.specs.Reader.{Reader, refuse}
-use Rattle.evo_combinators.specs.Rule.{Or, Goes}
+use Rattle.evo_combinators.specs.Rule.{Or, IsViablePrefix}
 use Rattle.evo_combinators.specs.Guard.{starts, on, On}
 use Rattle.evo_combinators.proofs.Laws.{right_ext}
 use Rattle.evo_combinators.proofs.GuardLaws.{which, starts_is, starts_still, starts_same, enters_by, right_on}
 use Rattle.evo_combinators.proofs.Faults.{same_by}
-use Rattle.evo_combinators.specs.Laws.{Begins, Enters, Grammar_of, Like, Right, first}
+use Rattle.evo_combinators.specs.Laws.{Begins, Enters, GrammarOf, SameLookahead, ReadsRule, first}
 
-module _ {T B : Type 0} (n : ℕ) (Stop : Option T → Type 0) (g : T → Bool) (S S' : List T → B → Type 0) (p : Reader T B) (right : Right n Stop S S' p) (some : (b : B) → S [] b → ⊥) where
+module _ {T B : Type 0} (n : ℕ) (Stop : Option T → Type 0) (g : T → Bool) (S S' : List T → B → Type 0) (p : Reader T B) (right : ReadsRule n Stop S S' p) (some : (b : B) → S [] b → ⊥) where
   yes : (ts : List T) → starts g ts ≡ true → on g p refuse ts ≡ p ts
   yes ts e = ap (λ b. cond b (p ts) (Err (Grammar (length ts)))) e
 
@@ -24,12 +24,12 @@ module _ {T B : Type 0} (n : ℕ) (Stop : Option T → Type 0) (g : T → Bool) 
   begun : (us more : List T) (b : B) → On g S us b → starts g (us ++ more) ≡ true
   begun us more b (t, vs, cut, is, s) = ap (λ x. starts g (x ++ more)) cut ∙ starts_is g (t ∷ (vs ++ more)) ∙ is
 
-  goes : (us rest : List T) → starts g (us ++ rest) ≡ true → (us ≡ []) ⊎ Goes S' us → (us ≡ []) ⊎ Goes (On g S') us
+  goes : (us rest : List T) → starts g (us ++ rest) ≡ true → (us ≡ []) ⊎ IsViablePrefix S' us → (us ≡ []) ⊎ IsViablePrefix (On g S') us
   goes us rest is (inl e) = inl e
   goes [] rest is (inr w) = inl refl
   goes (u ∷ us) rest is (inr (w, b, s)) = inr (w, b, (u, us ++ w, refl, sym (starts_is g (u ∷ (us ++ rest))) ∙ is, s))
 
-  again : (us rest more : List T) → starts g (us ++ rest) ≡ true → Like rest more → ((length more ≤ length more) → p (us ++ more) ≡ Err (Grammar (length more))) →
+  again : (us rest more : List T) → starts g (us ++ rest) ≡ true → SameLookahead rest more → ((length more ≤ length more) → p (us ++ more) ≡ Err (Grammar (length more))) →
       on g p refuse (us ++ more) ≡ Err (Grammar (length more))
   again [] rest more is like bad = elim (which (starts g more)) [
     | inl e ↦ yes more e ∙ bad (omega arith)
@@ -37,7 +37,7 @@ module _ {T B : Type 0} (n : ℕ) (Stop : Option T → Type 0) (g : T → Bool) 
   ]
   again (u ∷ us) rest more is like bad = yes (u ∷ (us ++ more)) (starts_same g u (us ++ more) (us ++ rest) ∙ is) ∙ bad (omega arith)
 
-  opens : (us rest : List T) (t : T) → starts g (us ++ t ∷ rest) ≡ true → Goes S' (us ++ t ∷ []) → Goes (On g S') (us ++ t ∷ [])
+  opens : (us rest : List T) (t : T) → starts g (us ++ t ∷ rest) ≡ true → IsViablePrefix S' (us ++ t ∷ []) → IsViablePrefix (On g S') (us ++ t ∷ [])
   opens [] rest t is (w, b, s) = (w, b, (t, w, refl, sym (starts_is g (t ∷ rest)) ∙ is, s))
   opens (u ∷ us) rest t is (w, b, s) = (w, b, (u, (us ++ t ∷ []) ++ w, refl, sym (starts_is g (u ∷ (us ++ t ∷ rest))) ∙ is, s))
 
@@ -45,7 +45,7 @@ module _ {T B : Type 0} (n : ℕ) (Stop : Option T → Type 0) (g : T → Bool) 
   still [] rest more t is = starts_same g t more rest ∙ is
   still (u ∷ us) rest more t is = starts_same g u (us ++ t ∷ more) (us ++ t ∷ rest) ∙ is
 
-  pub right_filter : Right n Stop (On g S) (On g S') (on g p refuse)
+  pub right_filter : ReadsRule n Stop (On g S) (On g S') (on g p refuse)
   right_filter = record {
     wider = λ us b (t, vs, cut, is, s). (t, vs, cut, is, right.wider us b s);
     ended = right.ended;
@@ -75,7 +75,7 @@ module _ {T B : Type 0} (n : ℕ) (Stop : Option T → Type 0) (g : T → Bool) 
 
 -- the filtered reader before another one
 module _ {T B : Type 0} (n : ℕ) (Stop : Option T → Type 0) (g : T → Bool) (S S' R R' : List T → B → Type 0) (p r : Reader T B)
-    (right_p : Right n Stop S S' p) (some : (b : B) → S [] b → ⊥) (right_r : Right n Stop R R' r) (enters : Enters n g p)
+    (right_p : ReadsRule n Stop S S' p) (some : (b : B) → S [] b → ⊥) (right_r : ReadsRule n Stop R R' r) (enters : Enters n g p)
     (apart : (us rest : List T) (b : B) → R us b → Stop (first rest) → starts g (us ++ rest) ≡ false) where
   inner : (ts : List T) (b : Bool) → starts g ts ≡ b → cond b (p ts) (r ts) ≡ cond b (cond (starts g ts) (p ts) (Err (Grammar (length ts)))) (r ts)
   inner ts true is = sym (ap (λ c. cond c (p ts) (Err (Grammar (length ts)))) is)
@@ -87,14 +87,14 @@ module _ {T B : Type 0} (n : ℕ) (Stop : Option T → Type 0) (g : T → Bool) 
   enters_on : Enters n g (on g p refuse)
   enters_on t us fits is bad = enters t us fits is (sym (yes n Stop g S S' p right_p some (t ∷ us) (starts_is g (t ∷ us) ∙ is)) ∙ bad)
 
-  pub right_when : Right n Stop (Or (On g S) R) (Or (On g S') R') (on g p r)
+  pub right_when : ReadsRule n Stop (Or (On g S) R) (Or (On g S') R') (on g p r)
   right_when = right_ext n Stop (Or (On g S) R) (Or (On g S') R') (on g (on g p refuse) r) (on g p r)
       (λ ts fits. inner ts (starts g ts) refl)
       (right_on n Stop g (On g S) (On g S') R R' (on g p refuse) r (right_filter n Stop g S S' p right_p some) right_r begins_on enters_on apart)
 
 -- a token with which spellings of some nesting begin is not refused at any nesting
-module _ {T A : Type 0} (Stop : Option T → Type 0) (S : ℕ → List T → A → Type 0) (p : ℕ → Reader T A) (gram : Grammar_of Stop S p) where
-  pub enters_at : (d m : ℕ) (t : T) → Goes (S (d + m)) (t ∷ []) → (us : List T) → p d (t ∷ us) ≡ Err (Grammar (suc (length us))) → ⊥
+module _ {T A : Type 0} (Stop : Option T → Type 0) (S : ℕ → List T → A → Type 0) (p : ℕ → Reader T A) (gram : GrammarOf Stop S p) where
+  pub enters_at : (d m : ℕ) (t : T) → IsViablePrefix (S (d + m)) (t ∷ []) → (us : List T) → p d (t ∷ us) ≡ Err (Grammar (suc (length us))) → ⊥
   enters_at d m t w us e =
       enters_by Stop (S (d + m)) (S (suc (d + m))) (p (d + m)) (λ n. gram.right (d + m) n) t w us
       (same_by Stop S p gram d m (t ∷ us) (Err (Grammar (suc (length us)))) e (λ n bad. cc))

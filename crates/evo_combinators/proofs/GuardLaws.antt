@@ -3,24 +3,24 @@ use Rattle.std.specs.Prelude.{◌≡◌, ℕ, suc, ◌+◌, ◌≤◌, Bool, tru
 use Rattle.std.proofs.Common.{sym, ◌∙◌, ap, subst, inl, inr, arith, length-append, append-nil}
 use Rattle.evo_combinators.specs.declared.Fault.TheVariants.{Grammar, Deep}
 use Rattle.evo_combinators.specs.Reader.{Reader, Outcome, and_then, ◌>>=◌}
-use Rattle.evo_combinators.specs.Rule.{Or, Goes}
+use Rattle.evo_combinators.specs.Rule.{Or, IsViablePrefix}
 use Rattle.evo_combinators.specs.Guard.{choose, starts, on, ahead, starts_two, second, two, On}
-use Rattle.evo_combinators.proofs.Laws.{Like-append, Like-refl, goes_by, maybe_by}
-use Rattle.evo_combinators.specs.Laws.{Begins, Enters, Like, Right, first, of_first}
+use Rattle.evo_combinators.proofs.Laws.{SameLookahead-append, SameLookahead-refl, goes_by, maybe_by}
+use Rattle.evo_combinators.specs.Laws.{Begins, Enters, SameLookahead, ReadsRule, first, of_first}
 
 pub which : (b : Bool) → (b ≡ true) ⊎ (b ≡ false)
 which true = inl refl
 which false = inr refl
 
 module _ {T B : Type 0} (n : ℕ) (Stop : Option T → Type 0) (c : List T → Bool) (S S' R R' : List T → B → Type 0) (p r : Reader T B)
-    (right_p : Right n Stop S S' p) (right_r : Right n Stop R R' r)
+    (right_p : ReadsRule n Stop S S' p) (right_r : ReadsRule n Stop R R' r)
     (apart_p : (us rest : List T) (b : B) → S us b → Stop (first rest) → c (us ++ rest) ≡ true)
     (apart_r : (us rest : List T) (b : B) → R us b → Stop (first rest) → c (us ++ rest) ≡ false)
-    (keep_p : (us rest more : List T) (b : B) → S us b → c (us ++ rest) ≡ true → Like rest more → c (us ++ more) ≡ true)
-    (keep_r : (us rest more : List T) (b : B) → R us b → c (us ++ rest) ≡ false → Like rest more → r (us ++ more) ≡ Ok (b, more) → c (us ++ more) ≡ false)
-    (stay_p : (us rest more : List T) → length (us ++ rest) ≤ n → p (us ++ rest) ≡ Err (Grammar (length rest)) → c (us ++ rest) ≡ true → Like rest more →
+    (keep_p : (us rest more : List T) (b : B) → S us b → c (us ++ rest) ≡ true → SameLookahead rest more → c (us ++ more) ≡ true)
+    (keep_r : (us rest more : List T) (b : B) → R us b → c (us ++ rest) ≡ false → SameLookahead rest more → r (us ++ more) ≡ Ok (b, more) → c (us ++ more) ≡ false)
+    (stay_p : (us rest more : List T) → length (us ++ rest) ≤ n → p (us ++ rest) ≡ Err (Grammar (length rest)) → c (us ++ rest) ≡ true → SameLookahead rest more →
     (c (us ++ more) ≡ true) ⊎ ((c (us ++ more) ≡ false) × (r (us ++ more) ≡ Err (Grammar (length more)))))
-    (stay_r : (us rest more : List T) → r (us ++ rest) ≡ Err (Grammar (length rest)) → c (us ++ rest) ≡ false → Like rest more → r (us ++ more) ≡ Err (Grammar (length more)) → c (us ++ more) ≡ false)
+    (stay_r : (us rest more : List T) → r (us ++ rest) ≡ Err (Grammar (length rest)) → c (us ++ rest) ≡ false → SameLookahead rest more → r (us ++ more) ≡ Err (Grammar (length more)) → c (us ++ more) ≡ false)
     (deep_p : (us rest more : List T) (t : T) → p (us ++ t ∷ rest) ≡ Err (Deep (suc (length rest))) → c (us ++ t ∷ rest) ≡ true → c (us ++ t ∷ more) ≡ true)
     (deep_r : (us rest more : List T) (t : T) → r (us ++ t ∷ rest) ≡ Err (Deep (suc (length rest))) → c (us ++ t ∷ rest) ≡ false → r (us ++ t ∷ more) ≡ Err (Deep (suc (length more))) →
     c (us ++ t ∷ more) ≡ false) where
@@ -35,7 +35,7 @@ module _ {T B : Type 0} (n : ℕ) (Stop : Option T → Type 0) (c : List T → B
   wide us b (inr s) = inr (right_r.wider us b s)
 
   sound : (ts rest : List T) (b : B) → length ts ≤ n → choose c p r ts ≡ Ok (b, rest) →
-      (us : List T) × (ts ≡ us ++ rest) × Or S R us b × ((more : List T) → length (us ++ more) ≤ n → Like rest more → choose c p r (us ++ more) ≡ Ok (b, more))
+      (us : List T) × (ts ≡ us ++ rest) × Or S R us b × ((more : List T) → length (us ++ more) ≤ n → SameLookahead rest more → choose c p r (us ++ more) ≡ Ok (b, more))
   sound ts rest b fits e = elim (which (c ts)) [
     | inl is ↦
         let (us, cut, s, again) = right_p.sound ts rest b fits (sym (yes ts is) ∙ e) in
@@ -50,12 +50,12 @@ module _ {T B : Type 0} (n : ℕ) (Stop : Option T → Type 0) (c : List T → B
   complete us rest b fits (inr s) stop = no (us ++ rest) (apart_r us rest b s stop) ∙ right_r.complete us rest b fits s stop
 
   refuses : (ts : List T) (k : ℕ) → length ts ≤ n → choose c p r ts ≡ Err (Grammar k) →
-      (us : List T) × (rest : List T) × (ts ≡ us ++ rest) × ((us ≡ []) ⊎ Goes (Or S' R') us)
-      × ((more : List T) → length (us ++ more) ≤ n → Like rest more → choose c p r (us ++ more) ≡ Err (Grammar (length more)))
+      (us : List T) × (rest : List T) × (ts ≡ us ++ rest) × ((us ≡ []) ⊎ IsViablePrefix (Or S' R') us)
+      × ((more : List T) → length (us ++ more) ≤ n → SameLookahead rest more → choose c p r (us ++ more) ≡ Err (Grammar (length more)))
   refuses ts k fits e = elim (which (c ts)) [
     | inl is ↦
         let (us, rest, cut, goes, again) = right_p.refuses ts k fits (sym (yes ts is) ∙ e) in
-        let here = again rest (subst (λ x. length x ≤ n) cut fits) (Like-refl rest) in (
+        let here = again rest (subst (λ x. length x ≤ n) cut fits) (SameLookahead-refl rest) in (
           us,
           rest,
           cut,
@@ -67,7 +67,7 @@ module _ {T B : Type 0} (n : ℕ) (Stop : Option T → Type 0) (c : List T → B
         )
     | inr is ↦
         let (us, rest, cut, goes, again) = right_r.refuses ts k fits (sym (no ts is) ∙ e) in
-        let here = again rest (subst (λ x. length x ≤ n) cut fits) (Like-refl rest) in (
+        let here = again rest (subst (λ x. length x ≤ n) cut fits) (SameLookahead-refl rest) in (
           us,
           rest,
           cut,
@@ -77,7 +77,7 @@ module _ {T B : Type 0} (n : ℕ) (Stop : Option T → Type 0) (c : List T → B
   ]
 
   deepens : (ts : List T) (k : ℕ) → length ts ≤ n → choose c p r ts ≡ Err (Deep k) →
-      (us : List T) × (t : T) × (rest : List T) × (ts ≡ us ++ t ∷ rest) × ((us ≡ []) ⊎ Goes (Or S' R') us) × Goes (Or S' R') (us ++ t ∷ [])
+      (us : List T) × (t : T) × (rest : List T) × (ts ≡ us ++ t ∷ rest) × ((us ≡ []) ⊎ IsViablePrefix (Or S' R') us) × IsViablePrefix (Or S' R') (us ++ t ∷ [])
       × ((more : List T) → length (us ++ t ∷ more) ≤ n → choose c p r (us ++ t ∷ more) ≡ Err (Deep (suc (length more))))
   deepens ts k fits e = elim (which (c ts)) [
     | inl is ↦
@@ -104,7 +104,7 @@ module _ {T B : Type 0} (n : ℕ) (Stop : Option T → Type 0) (c : List T → B
         )
   ]
 
-  pub right_choose : Right n Stop (Or S R) (Or S' R') (choose c p r)
+  pub right_choose : ReadsRule n Stop (Or S R) (Or S' R') (choose c p r)
   right_choose = record { wider = wide; ended = right_r.ended; sound = sound; complete = complete; refuses = refuses; deepens = deepens }
 
 -- ---- by the first token
@@ -114,8 +114,8 @@ unfolding starts
 starts_is g [] = refl
 starts_is g (t ∷ ts) = refl
 
-pub starts_still : {T : Type 0} (g : T → Bool) (us rest more : List T) → starts g (us ++ rest) ≡ false → Like rest more → starts g (us ++ more) ≡ false
-starts_still g us rest more e like = elim (Like-append us rest more like) [
+pub starts_still : {T : Type 0} (g : T → Bool) (us rest more : List T) → starts g (us ++ rest) ≡ false → SameLookahead rest more → starts g (us ++ more) ≡ false
+starts_still g us rest more e like = elim (SameLookahead-append us rest more like) [
   | inl none ↦ ap (starts g) none ∙ starts_is g []
   | inr same ↦ starts_is g (us ++ more) ∙ ap (of_first g) same ∙ sym (starts_is g (us ++ rest)) ∙ e
 ]
@@ -128,20 +128,20 @@ starts_deep g [] rest more t b is = starts_same g t more rest ∙ is
 starts_deep g (u ∷ us) rest more t b is = starts_same g u (us ++ t ∷ more) (us ++ t ∷ rest) ∙ is
 
 -- a token with which a spelling begins is not refused, and opens nothing too deep
-module _ {T A : Type 0} (Stop : Option T → Type 0) (S W : List T → A → Type 0) (p : Reader T A) (right : (n : ℕ) → Right n Stop S W p) where
+module _ {T A : Type 0} (Stop : Option T → Type 0) (S W : List T → A → Type 0) (p : Reader T A) (right : (n : ℕ) → ReadsRule n Stop S W p) where
   entered : (t : T) (us w us' rest : List T) (a : A) → S (t ∷ w) a → t ∷ us ≡ us' ++ rest → suc (length us) ≡ length rest →
-      ((more : List T) → length (us' ++ more) ≤ length (t ∷ us) + length (t ∷ w) → Like rest more → p (us' ++ more) ≡ Err (Grammar (length more))) → ⊥
+      ((more : List T) → length (us' ++ more) ≤ length (t ∷ us) + length (t ∷ w) → SameLookahead rest more → p (us' ++ more) ≡ Err (Grammar (length more))) → ⊥
   entered t us w [] rest a s cut count again =
       let bad = again (t ∷ w) (omega arith) (inr (ap first cut)) in
       let good = (right (length ((t ∷ w) ++ []))).complete (t ∷ w) [] a (omega arith) s (right 0).ended in
       let both = sym good ∙ ap p (append-nil (t ∷ w)) ∙ bad in cc
   entered t us w (u ∷ us') rest a s cut count again = absurd (omega (arith, ap length cut, length-append us' rest))
 
-  pub enters_by : (t : T) → Goes S (t ∷ []) → (us : List T) → p (t ∷ us) ≡ Err (Grammar (suc (length us))) → ⊥
+  pub enters_by : (t : T) → IsViablePrefix S (t ∷ []) → (us : List T) → p (t ∷ us) ≡ Err (Grammar (suc (length us))) → ⊥
   enters_by t (w, a, s) us e =
       let n = length (t ∷ us) + length (t ∷ w) in
       let (us', rest, cut, goes, again) = (right n).refuses (t ∷ us) (suc (length us)) (omega arith) e in
-      let here = again rest (subst (λ x. length x ≤ n) cut (omega arith)) (Like-refl rest) in
+      let here = again rest (subst (λ x. length x ≤ n) cut (omega arith)) (SameLookahead-refl rest) in
       let count : suc (length us) ≡ length rest = let both = sym e ∙ ap p cut ∙ here in cc in
       entered t us w us' rest a s cut count again
 
@@ -154,7 +154,7 @@ module _ {T A : Type 0} (Stop : Option T → Type 0) (S W : List T → A → Typ
       let both = sym good ∙ ap p (append-nil (t ∷ w)) ∙ ap (λ x. p (x ∷ w)) same ∙ bad in cc
   opened t us w (v ∷ us') rest u a s cut count again = absurd (omega (arith, ap length cut, length-append us' (u ∷ rest)))
 
-  pub opens_by : (t : T) → Goes S (t ∷ []) → (us : List T) → p (t ∷ us) ≡ Err (Deep (suc (length us))) → ⊥
+  pub opens_by : (t : T) → IsViablePrefix S (t ∷ []) → (us : List T) → p (t ∷ us) ≡ Err (Deep (suc (length us))) → ⊥
   opens_by t (w, a, s) us e =
       let n = length (t ∷ us) + length (t ∷ w) in
       let (us', u, rest, cut, goes, opens, again) = (right n).deepens (t ∷ us) (suc (length us)) (omega arith) e in
@@ -174,7 +174,7 @@ module _ {T A : Type 0} (Stop : Option T → Type 0) (S W : List T → A → Typ
       let none : ◌≡◌ {A = List T} (t ∷ w) [] = ap (λ x. x.1) rests in cc
 
 module _ {T B : Type 0} (n : ℕ) (Stop : Option T → Type 0) (g : T → Bool) (S S' R R' : List T → B → Type 0) (p r : Reader T B)
-    (right_p : Right n Stop S S' p) (right_r : Right n Stop R R' r)
+    (right_p : ReadsRule n Stop S S' p) (right_r : ReadsRule n Stop R R' r)
     (begins : Begins (λ t. g t ≡ true) S) (enters : Enters n g p)
     (apart : (us rest : List T) (b : B) → R us b → Stop (first rest) → starts g (us ++ rest) ≡ false) where
   taken : (us more : List T) (b : B) → S us b → starts g (us ++ more) ≡ true
@@ -182,13 +182,13 @@ module _ {T B : Type 0} (n : ℕ) (Stop : Option T → Type 0) (g : T → Bool) 
       let (t, vs, cut, is) = begins us b s in
       ap (λ x. starts g (x ++ more)) cut ∙ starts_is g (t ∷ (vs ++ more)) ∙ is
 
-  on_stay : (us rest more : List T) → length (us ++ rest) ≤ n → p (us ++ rest) ≡ Err (Grammar (length rest)) → starts g (us ++ rest) ≡ true → Like rest more →
+  on_stay : (us rest more : List T) → length (us ++ rest) ≤ n → p (us ++ rest) ≡ Err (Grammar (length rest)) → starts g (us ++ rest) ≡ true → SameLookahead rest more →
       (starts g (us ++ more) ≡ true) ⊎ ((starts g (us ++ more) ≡ false) × (r (us ++ more) ≡ Err (Grammar (length more))))
   on_stay [] [] more fits bad is like = absurd (let none = sym (starts_is g []) ∙ is in cc)
   on_stay [] (t ∷ rest) more fits bad is like = absurd (enters t rest (omega arith) (sym (starts_is g (t ∷ rest)) ∙ is) bad)
   on_stay (u ∷ us) rest more fits bad is like = inl (starts_same g u (us ++ more) (us ++ rest) ∙ is)
 
-  pub right_on : Right n Stop (Or S R) (Or S' R') (on g p r)
+  pub right_on : ReadsRule n Stop (Or S R) (Or S' R') (on g p r)
   right_on = right_choose n Stop (starts g) S S' R R' p r right_p right_r
       (λ us rest b s stop. taken us rest b s) apart
       (λ us rest more b s is like. taken us more b s) (λ us rest more b s is like good. starts_still g us rest more is like)
@@ -207,7 +207,7 @@ module _ {T A : Type 0} (g : T → Bool) (p : Reader T A) where
   ahead_no ts e = ap (λ b. and_then (cond b (Ok (tt, ts)) (Err (Grammar (length ts)))) (λ _. p)) e
 
 module _ {T A : Type 0} (n : ℕ) (Stop : Option T → Type 0) (g : T → Bool) (S S' : List T → A → Type 0) (p : Reader T A)
-    (right : Right n Stop S S' p) (some : (a : A) → S [] a → ⊥) where
+    (right : ReadsRule n Stop S S' p) (some : (a : A) → S [] a → ⊥) where
   abbrev Looks : Reader T A
   Looks = ahead g >>= (λ _. p)
 
@@ -218,12 +218,12 @@ module _ {T A : Type 0} (n : ℕ) (Stop : Option T → Type 0) (g : T → Bool) 
   holds : (us more : List T) (a : A) → On g S us a → starts g (us ++ more) ≡ true
   holds us more a (t, vs, cut, is, s) = ap (λ x. starts g (x ++ more)) cut ∙ starts_is g (t ∷ (vs ++ more)) ∙ is
 
-  goes_on : (us rest : List T) → starts g (us ++ rest) ≡ true → (us ≡ []) ⊎ Goes S' us → (us ≡ []) ⊎ Goes (On g S') us
+  goes_on : (us rest : List T) → starts g (us ++ rest) ≡ true → (us ≡ []) ⊎ IsViablePrefix S' us → (us ≡ []) ⊎ IsViablePrefix (On g S') us
   goes_on [] rest is goes = inl refl
   goes_on (u ∷ us) rest is (inl e) = absurd (cc)
   goes_on (u ∷ us) rest is (inr (w, a, s)) = inr (w, a, (u, us ++ w, refl, sym (starts_is g (u ∷ (us ++ rest))) ∙ is, s))
 
-  opens_on : (us rest : List T) (t : T) → starts g (us ++ t ∷ rest) ≡ true → Goes S' (us ++ t ∷ []) → Goes (On g S') (us ++ t ∷ [])
+  opens_on : (us rest : List T) (t : T) → starts g (us ++ t ∷ rest) ≡ true → IsViablePrefix S' (us ++ t ∷ []) → IsViablePrefix (On g S') (us ++ t ∷ [])
   opens_on [] rest t is (w, a, s) = (w, a, (t, w, refl, sym (starts_is g (t ∷ rest)) ∙ is, s))
   opens_on (u ∷ us) rest t is (w, a, s) = (w, a, (u, (us ++ t ∷ []) ++ w, refl, sym (starts_is g (u ∷ (us ++ t ∷ rest))) ∙ is, s))
 
@@ -231,7 +231,7 @@ module _ {T A : Type 0} (n : ℕ) (Stop : Option T → Type 0) (g : T → Bool) 
   refuses_on [] rest more is bad = elim (which (starts g more)) [ inl yes ↦ ahead_yes g p more yes ∙ bad | inr no ↦ ahead_no g p more no ]
   refuses_on (u ∷ us) rest more is bad = ahead_yes g p (u ∷ (us ++ more)) (starts_same g u (us ++ more) (us ++ rest) ∙ is) ∙ bad
 
-  pub right_ahead : Right n Stop (On g S) (On g S') Looks
+  pub right_ahead : ReadsRule n Stop (On g S) (On g S') Looks
   right_ahead = record {
     wider = λ us a (t, vs, cut, is, s). (t, vs, cut, is, right.wider us a s);
     ended = right.ended;
@@ -268,7 +268,7 @@ module _ {T A : Type 0} (n : ℕ) (Stop : Option T → Type 0) (g : T → Bool) 
 
 -- ---- by the first two tokens
 
-two_still : {T : Type 0} (f g : T → Bool) (u : T) (us rest more : List T) → starts_two f g (u ∷ (us ++ rest)) ≡ false → Like rest more → starts_two f g (u ∷ (us ++ more)) ≡ false
+two_still : {T : Type 0} (f g : T → Bool) (u : T) (us rest more : List T) → starts_two f g (u ∷ (us ++ rest)) ≡ false → SameLookahead rest more → starts_two f g (u ∷ (us ++ more)) ≡ false
 unfolding starts_two
 two_still f g u us rest more e like = go (f u) e
   where
@@ -302,7 +302,7 @@ two_parts f g t ts e = go (f t) refl e
     go false is e = absurd (cc)
 
 module _ {T B : Type 0} (n : ℕ) (Stop : Option T → Type 0) (f g : T → Bool) (S S' R R' : List T → B → Type 0) (p r : Reader T B)
-    (right_p : Right n Stop S S' p) (right_r : Right n Stop R R' r)
+    (right_p : ReadsRule n Stop S S' p) (right_r : ReadsRule n Stop R R' r)
     (pair : (us : List T) (b : B) → S us b → (t : T) × (s : T) × (vs : List T) × (us ≡ t ∷ (s ∷ vs)) × (f t ≡ true) × (g s ≡ true))
     (some_r : (b : B) → R [] b → ⊥)
     (apart : (us rest : List T) (b : B) → R us b → Stop (first rest) → starts_two f g (us ++ rest) ≡ false)
@@ -315,11 +315,11 @@ module _ {T B : Type 0} (n : ℕ) (Stop : Option T → Type 0) (f g : T → Bool
       let (t, u, vs, cut, is, is') = pair us b s in
       ap (λ x. starts_two f g (x ++ more)) cut ∙ two_yes f g t (u ∷ (vs ++ more)) is (starts_is g (u ∷ (vs ++ more)) ∙ is')
 
-  two_keep : (us rest more : List T) (b : B) → R us b → starts_two f g (us ++ rest) ≡ false → Like rest more → starts_two f g (us ++ more) ≡ false
+  two_keep : (us rest more : List T) (b : B) → R us b → starts_two f g (us ++ rest) ≡ false → SameLookahead rest more → starts_two f g (us ++ more) ≡ false
   two_keep [] rest more b s is like = absurd (some_r b s)
   two_keep (u ∷ us) rest more b s is like = two_still f g u us rest more is like
 
-  two_stay_p : (us rest more : List T) → length (us ++ rest) ≤ n → p (us ++ rest) ≡ Err (Grammar (length rest)) → starts_two f g (us ++ rest) ≡ true → Like rest more →
+  two_stay_p : (us rest more : List T) → length (us ++ rest) ≤ n → p (us ++ rest) ≡ Err (Grammar (length rest)) → starts_two f g (us ++ rest) ≡ true → SameLookahead rest more →
       (starts_two f g (us ++ more) ≡ true) ⊎ ((starts_two f g (us ++ more) ≡ false) × (r (us ++ more) ≡ Err (Grammar (length more))))
   two_stay_p [] [] more fits bad is like = absurd (let none = sym (two_none f g [] (starts_is f [])) ∙ is in cc)
   two_stay_p [] (t ∷ rest) more fits bad is like = absurd (enters_p t rest (omega arith) (two_parts f g t rest is).0 bad)
@@ -332,7 +332,7 @@ module _ {T B : Type 0} (n : ℕ) (Stop : Option T → Type 0) (f g : T → Bool
       let (is_f, is_g) = two_parts f g t (s ∷ (us ++ rest)) is in
       inl (two_yes f g t (s ∷ (us ++ more)) is_f (starts_same g s (us ++ more) (us ++ rest) ∙ is_g))
 
-  two_stay_r : (us rest more : List T) → r (us ++ rest) ≡ Err (Grammar (length rest)) → starts_two f g (us ++ rest) ≡ false → Like rest more → starts_two f g (us ++ more) ≡ false
+  two_stay_r : (us rest more : List T) → r (us ++ rest) ≡ Err (Grammar (length rest)) → starts_two f g (us ++ rest) ≡ false → SameLookahead rest more → starts_two f g (us ++ more) ≡ false
   two_stay_r [] rest more bad is like = elim (which (starts f rest)) [
     | inl yes ↦ absurd (first_is rest yes bad)
     | inr no ↦ two_none f g more (starts_still f [] rest more no like)
@@ -357,7 +357,7 @@ module _ {T B : Type 0} (n : ℕ) (Stop : Option T → Type 0) (f g : T → Bool
   ]
   two_deep_r (u ∷ us) rest more t bad is = two_still f g u us (t ∷ rest) (t ∷ more) is (inr refl)
 
-  pub right_two : Right n Stop (Or S R) (Or S' R') (two f g p r)
+  pub right_two : ReadsRule n Stop (Or S R) (Or S' R') (two f g p r)
   right_two = right_choose n Stop (starts_two f g) S S' R R' p r right_p right_r
       (λ us rest b s stop. two_taken us rest b s) apart
       (λ us rest more b s is like. two_taken us more b s) (λ us rest more b s is like good. two_keep us rest more b s is like) two_stay_p

@@ -4,15 +4,15 @@ use Rattle.std.proofs.Common.{sym, ◌∙◌, ap, subst, inl, inr, arith, length
 use Rattle.evo_combinators.specs.declared.Fault.{Fault}
 use Rattle.evo_combinators.specs.declared.Fault.TheVariants.{Grammar, Deep}
 use Rattle.evo_combinators.specs.Reader.{Outcome, Reader, and_then, ◌>>=◌, pure, refuse, paired, lead, branch, alt, barred, bar, many_from, many}
-use Rattle.evo_combinators.specs.Rule.{Only, Nothing, Led, Or, Then, Many, Goes}
-use Rattle.evo_combinators.specs.Laws.{Begins, Like, Right, Skips, first}
+use Rattle.evo_combinators.specs.Rule.{Empty, Fail, TokenThen, Or, Then, Many, IsViablePrefix}
+use Rattle.evo_combinators.specs.Laws.{Begins, SameLookahead, ReadsRule, Skips, first}
 
-pub Like-append : {T : Type 0} (us rest more : List T) → Like rest more → Like (us ++ rest) (us ++ more)
-Like-append [] rest more like = like
-Like-append (u ∷ us) rest more like = inr refl
+pub SameLookahead-append : {T : Type 0} (us rest more : List T) → SameLookahead rest more → SameLookahead (us ++ rest) (us ++ more)
+SameLookahead-append [] rest more like = like
+SameLookahead-append (u ∷ us) rest more like = inr refl
 
-pub Like-refl : {T : Type 0} (ts : List T) → Like ts ts
-Like-refl ts = inr refl
+pub SameLookahead-refl : {T : Type 0} (ts : List T) → SameLookahead ts ts
+SameLookahead-refl ts = inr refl
 
 pub ok_parts : {T A : Type 0} {a b : A} {x y : List T} → ◌≡◌ {A = Result (A × List T) Fault} (Ok (a, x)) (Ok (b, y)) → (a ≡ b) × (x ≡ y)
 ok_parts {T} {A} {a} {b} {x} {y} e = let same : ◌≡◌ {A = A × List T} (a, x) (b, y) = cc in (ap (λ p. p.0) same, ap (λ p. p.1) same)
@@ -20,7 +20,7 @@ ok_parts {T} {A} {a} {b} {x} {y} e = let same : ◌≡◌ {A = A × List T} (a, 
 pub ok_both : {T A : Type 0} {a b : A} {x y : List T} → a ≡ b → x ≡ y → ◌≡◌ {A = Result (A × List T) Fault} (Ok (a, x)) (Ok (b, y))
 ok_both p q = cc
 
-pub right_pure : {T A : Type 0} (n : ℕ) (Stop : Option T → Type 0) → Stop None → (a : A) → Right n Stop (Only a) (Only a) (pure a)
+pub right_pure : {T A : Type 0} (n : ℕ) (Stop : Option T → Type 0) → Stop None → (a : A) → ReadsRule n Stop (Empty a) (Empty a) (pure a)
 right_pure n Stop ended a = record {
   wider = λ us b s. s;
   ended = ended;
@@ -30,7 +30,7 @@ right_pure n Stop ended a = record {
   deepens = λ ts k fits e. absurd (cc);
 }
 
-pub right_nothing : {T A : Type 0} (n : ℕ) (Stop : Option T → Type 0) → Stop None → Right {A = A} n Stop Nothing Nothing refuse
+pub right_nothing : {T A : Type 0} (n : ℕ) (Stop : Option T → Type 0) → Stop None → ReadsRule {A = A} n Stop Fail Fail refuse
 right_nothing n Stop ended = record {
   wider = λ us b s. s;
   ended = ended;
@@ -53,17 +53,17 @@ pub split_err : {T A B : Type 0} (o : Outcome T A) (f : A → Reader T B) (d : F
 split_err (Ok x) f d e = inr (x.0, x.1, refl, e)
 split_err (Err c) f d e = let same : c ≡ d = cc in inl (ap (λ x. Err x) same)
 
-goes_first : {T A B : Type 0} (S : List T → A → Type 0) (R : A → List T → B → Type 0) → ((a : A) → (vs : List T) × (b : B) × R a vs b) → (us : List T) → Goes S us → Goes (Then S R) us
+goes_first : {T A B : Type 0} (S : List T → A → Type 0) (R : A → List T → B → Type 0) → ((a : A) → (vs : List T) × (b : B) × R a vs b) → (us : List T) → IsViablePrefix S us → IsViablePrefix (Then S R) us
 goes_first S R some us g =
     let r = some g.1 in
     (g.0 ++ r.0, r.1, (g.1, us ++ g.0, r.0, sym (append_assoc us g.0 r.0), g.2, r.2))
 
-goes_second : {T A B : Type 0} (S : List T → A → Type 0) (R : A → List T → B → Type 0) (us vs : List T) (a : A) → S us a → Goes (R a) vs → Goes (Then S R) (us ++ vs)
+goes_second : {T A B : Type 0} (S : List T → A → Type 0) (R : A → List T → B → Type 0) (us vs : List T) (a : A) → S us a → IsViablePrefix (R a) vs → IsViablePrefix (Then S R) (us ++ vs)
 goes_second S R us vs a s g = (g.0, g.1, (a, us, vs ++ g.0, append_assoc us vs g.0, s, g.2))
 
 module _ {T A B : Type 0} (n m : ℕ) (StopS StopR : Option T → Type 0) (S S' : List T → A → Type 0) (R R' : A → List T → B → Type 0)
     (p : Reader T A) (q : A → Reader T B)
-    (right_p : Right n StopS S S' p) (right_q : (a : A) → Right m StopR (R a) (R' a) (q a))
+    (right_p : ReadsRule n StopS S S' p) (right_q : (a : A) → ReadsRule m StopR (R a) (R' a) (q a))
     (shorter : (us vs : List T) (a : A) → S us a → length (us ++ vs) ≤ n → length vs ≤ m)
     (follow : (a : A) (vs rest : List T) (b : B) → R a vs b → StopR (first rest) → StopS (first (vs ++ rest)))
     (some' : (a : A) → (vs : List T) × (b : B) × R' a vs b) (ended : StopR None) where
@@ -71,7 +71,7 @@ module _ {T A B : Type 0} (n m : ℕ) (StopS StopR : Option T → Type 0) (S S' 
   step us more a e = ap (λ o. and_then o q) e
 
   then_sound : (ts rest : List T) (b : B) → length ts ≤ n → ◌≡◌ {A = Outcome T B} ((p >>= q) ts) (Ok (b, rest)) →
-      (us : List T) × (ts ≡ us ++ rest) × Then S R us b × ((more : List T) → length (us ++ more) ≤ n → Like rest more → (p >>= q) (us ++ more) ≡ Ok (b, more))
+      (us : List T) × (ts ≡ us ++ rest) × Then S R us b × ((more : List T) → length (us ++ more) ≤ n → SameLookahead rest more → (p >>= q) (us ++ more) ≡ Ok (b, more))
   then_sound ts rest b fits e =
       let (a, mid, ep, eq) = split (p ts) q b rest e in
       let (us, cut, spells, again) = right_p.sound ts mid a fits ep in
@@ -82,7 +82,7 @@ module _ {T A B : Type 0} (n m : ℕ) (StopS StopR : Option T → Type 0) (S S' 
         (a, us, vs, refl, spells, spells'),
         λ more all like.
             let all' : length (us ++ (vs ++ more)) ≤ n = subst (λ x. length x ≤ n) (append_assoc us vs more) all in
-            let like' : Like mid (vs ++ more) = subst (λ x. Like x (vs ++ more)) (sym cut') (Like-append vs rest more like) in
+            let like' : SameLookahead mid (vs ++ more) = subst (λ x. SameLookahead x (vs ++ more)) (sym cut') (SameLookahead-append vs rest more like) in
             ap (p >>= q) (append_assoc us vs more) ∙ step us (vs ++ more) a (again (vs ++ more) all' like') ∙ again' more (shorter us (vs ++ more) a spells all') like,
       )
 
@@ -102,18 +102,18 @@ module _ {T A B : Type 0} (n m : ℕ) (StopS StopR : Option T → Type 0) (S S' 
   fault : List T → Fault → Type 0
   fault ts d = ◌≡◌ {A = Outcome T B} ((p >>= q) ts) (Err d)
 
-  refused_first : (us : List T) → (us ≡ []) ⊎ Goes S' us → (us ≡ []) ⊎ Goes (Then S' R') us
+  refused_first : (us : List T) → (us ≡ []) ⊎ IsViablePrefix S' us → (us ≡ []) ⊎ IsViablePrefix (Then S' R') us
   refused_first us (inl e) = inl e
   refused_first us (inr g) = inr (goes_first S' R' some' us g)
 
-  refused_second : (us vs : List T) (a : A) → S us a → (vs ≡ []) ⊎ Goes (R' a) vs → Goes (Then S' R') (us ++ vs)
+  refused_second : (us vs : List T) (a : A) → S us a → (vs ≡ []) ⊎ IsViablePrefix (R' a) vs → IsViablePrefix (Then S' R') (us ++ vs)
   refused_second us vs a s (inl e) = let r = some' a in
       goes_second S' R' us vs a (right_p.wider us a s) (r.0, r.1, subst (λ x. R' a (x ++ r.0) r.1) (sym e) r.2)
   refused_second us vs a s (inr g) = goes_second S' R' us vs a (right_p.wider us a s) g
 
   then_refuses : (ts : List T) (k : ℕ) → length ts ≤ n → ◌≡◌ {A = Outcome T B} ((p >>= q) ts) (Err (Grammar k)) →
-      (us : List T) × (rest : List T) × (ts ≡ us ++ rest) × ((us ≡ []) ⊎ Goes (Then S' R') us)
-      × ((more : List T) → length (us ++ more) ≤ n → Like rest more → (p >>= q) (us ++ more) ≡ Err (Grammar (length more)))
+      (us : List T) × (rest : List T) × (ts ≡ us ++ rest) × ((us ≡ []) ⊎ IsViablePrefix (Then S' R') us)
+      × ((more : List T) → length (us ++ more) ≤ n → SameLookahead rest more → (p >>= q) (us ++ more) ≡ Err (Grammar (length more)))
   then_refuses ts k fits e = elim (split_err (p ts) q (Grammar k) e) [
     | inl here ↦
         let (us, rest, cut, goes, again) = right_p.refuses ts k fits here in
@@ -129,13 +129,13 @@ module _ {T A B : Type 0} (n m : ℕ) (StopS StopR : Option T → Type 0) (S S' 
           inr (refused_second us vs a spells goes),
           λ more all like.
               let all' : length (us ++ (vs ++ more)) ≤ n = subst (λ x. length x ≤ n) (append_assoc us vs more) all in
-              let like' : Like mid (vs ++ more) = subst (λ x. Like x (vs ++ more)) (sym cut') (Like-append vs rest more like) in
+              let like' : SameLookahead mid (vs ++ more) = subst (λ x. SameLookahead x (vs ++ more)) (sym cut') (SameLookahead-append vs rest more like) in
               ap (p >>= q) (append_assoc us vs more) ∙ step us (vs ++ more) a (again (vs ++ more) all' like') ∙ again' more (shorter us (vs ++ more) a spells all') like,
         )
   ]
 
   then_deepens : (ts : List T) (k : ℕ) → length ts ≤ n → ◌≡◌ {A = Outcome T B} ((p >>= q) ts) (Err (Deep k)) →
-      (us : List T) × (t : T) × (rest : List T) × (ts ≡ us ++ t ∷ rest) × ((us ≡ []) ⊎ Goes (Then S' R') us) × Goes (Then S' R') (us ++ t ∷ [])
+      (us : List T) × (t : T) × (rest : List T) × (ts ≡ us ++ t ∷ rest) × ((us ≡ []) ⊎ IsViablePrefix (Then S' R') us) × IsViablePrefix (Then S' R') (us ++ t ∷ [])
       × ((more : List T) → length (us ++ t ∷ more) ≤ n → (p >>= q) (us ++ t ∷ more) ≡ Err (Deep (suc (length more))))
   then_deepens ts k fits e = elim (split_err (p ts) q (Deep k) e) [
     | inl here ↦
@@ -151,28 +151,28 @@ module _ {T A B : Type 0} (n m : ℕ) (StopS StopR : Option T → Type 0) (S S' 
           rest,
           cut ∙ ap (λ x. us ++ x) cut' ∙ sym (append_assoc us vs (t ∷ rest)),
           inr (refused_second us vs a spells goes),
-          subst (Goes (Then S' R')) (sym (append_assoc us vs (t ∷ []))) (goes_second S' R' us (vs ++ t ∷ []) a (right_p.wider us a spells) opens),
+          subst (IsViablePrefix (Then S' R')) (sym (append_assoc us vs (t ∷ []))) (goes_second S' R' us (vs ++ t ∷ []) a (right_p.wider us a spells) opens),
           λ more all.
               let all' : length (us ++ (vs ++ t ∷ more)) ≤ n = subst (λ x. length x ≤ n) (append_assoc us vs (t ∷ more)) all in
-              let like' : Like mid (vs ++ t ∷ more) = subst (λ x. Like x (vs ++ t ∷ more)) (sym cut') (Like-append vs (t ∷ rest) (t ∷ more) (inr refl)) in
+              let like' : SameLookahead mid (vs ++ t ∷ more) = subst (λ x. SameLookahead x (vs ++ t ∷ more)) (sym cut') (SameLookahead-append vs (t ∷ rest) (t ∷ more) (inr refl)) in
               ap (p >>= q) (append_assoc us vs (t ∷ more)) ∙ step us (vs ++ t ∷ more) a (again (vs ++ t ∷ more) all' like') ∙ again' more (shorter us (vs ++ t ∷ more) a spells all'),
         )
   ]
 
-  pub right_then_by : Right n StopR (Then S R) (Then S' R') (p >>= q)
+  pub right_then_by : ReadsRule n StopR (Then S R) (Then S' R') (p >>= q)
   right_then_by = record { wider = wide; ended = ended; sound = then_sound; complete = then_complete; refuses = then_refuses; deepens = then_deepens }
 
 pub right_then : {T A B : Type 0} (n : ℕ) (StopS StopR : Option T → Type 0) (S S' : List T → A → Type 0) (R R' : A → List T → B → Type 0)
-    (p : Reader T A) (q : A → Reader T B) → Right n StopS S S' p → ((a : A) → Right n StopR (R a) (R' a) (q a)) →
+    (p : Reader T A) (q : A → Reader T B) → ReadsRule n StopS S S' p → ((a : A) → ReadsRule n StopR (R a) (R' a) (q a)) →
     ((a : A) (vs rest : List T) (b : B) → R a vs b → StopR (first rest) → StopS (first (vs ++ rest))) →
-    ((a : A) → (vs : List T) × (b : B) × R a vs b) → StopR None → Right n StopR (Then S R) (Then S' R') (p >>= q)
+    ((a : A) → (vs : List T) × (b : B) × R a vs b) → StopR None → ReadsRule n StopR (Then S R) (Then S' R') (p >>= q)
 right_then n StopS StopR S S' R R' p q right_p right_q follow some = right_then_by n n StopS StopR S S' R R' p q right_p right_q (λ us vs a s fits. omega (arith, length-append us vs)) follow
     (λ a. let r = some a in (r.0, r.1, (right_q a).wider r.0 r.1 r.2))
 
 -- ---- by the first token
 
-Skips-like : {T A : Type 0} (f : T → Option A) (us rest more : List T) → Like rest more → Skips f (us ++ rest) → Skips f (us ++ more)
-Skips-like f us rest more like skips = elim (Like-append us rest more like) [
+Skips-like : {T A : Type 0} (f : T → Option A) (us rest more : List T) → SameLookahead rest more → Skips f (us ++ rest) → Skips f (us ++ more)
+Skips-like f us rest more like skips = elim (SameLookahead-append us rest more like) [
   | inl e ↦ λ t a is takes. let none : first (us ++ more) ≡ None = ap first e in absurd (cc)
   | inr e ↦ λ t a is takes. skips t a (sym e ∙ is) takes
 ]
@@ -202,15 +202,15 @@ module _ {T A B : Type 0} (f : T → Option A) (q : A → Reader T B) (r : Reade
 
 module _ {T A B : Type 0} (n : ℕ) (Stop : Option T → Type 0) (f : T → Option A) (S S' : A → List T → B → Type 0) (R R' : List T → B → Type 0)
     (q : A → Reader T B) (r : Reader T B)
-    (right_q : (a : A) → Right (n - 1) Stop (S a) (S' a) (q a)) (right_r : Right n Stop R R' r)
+    (right_q : (a : A) → ReadsRule (n - 1) Stop (S a) (S' a) (q a)) (right_r : ReadsRule n Stop R R' r)
     (some' : (a : A) → (us : List T) × (b : B) × S' a us b)
     (apart : (us rest : List T) (b : B) → R us b → Stop (first rest) → Skips f (us ++ rest)) where
-  alt_wide : (us : List T) (b : B) → Or (Led f S) R us b → Or (Led f S') R' us b
+  alt_wide : (us : List T) (b : B) → Or (TokenThen f S) R us b → Or (TokenThen f S') R' us b
   alt_wide us b (inl (t, a, vs, cut, takes, s)) = inl (t, a, vs, cut, takes, (right_q a).wider vs b s)
   alt_wide us b (inr s) = inr (right_r.wider us b s)
 
   alt_sound : (ts rest : List T) (b : B) → length ts ≤ n → alt f q r ts ≡ Ok (b, rest) →
-      (us : List T) × (ts ≡ us ++ rest) × Or (Led f S) R us b × ((more : List T) → length (us ++ more) ≤ n → Like rest more → alt f q r (us ++ more) ≡ Ok (b, more))
+      (us : List T) × (ts ≡ us ++ rest) × Or (TokenThen f S) R us b × ((more : List T) → length (us ++ more) ≤ n → SameLookahead rest more → alt f q r (us ++ more) ≡ Ok (b, more))
   alt_sound ts rest b fits e = elim (look f ts) [
     | inl (t, a, us, cut, takes) ↦
         let fits' : length us ≤ n - 1 = omega (arith, subst (λ x. length x ≤ n) cut fits) in
@@ -225,7 +225,7 @@ module _ {T A B : Type 0} (n : ℕ) (Stop : Option T → Type 0) (f : T → Opti
         (us, cut, inr s, λ more all like. skipped f q r (us ++ more) (Skips-like f us rest more like (subst (Skips f) cut skips)) ∙ again more all like)
   ]
 
-  alt_complete : (us rest : List T) (b : B) → length (us ++ rest) ≤ n → Or (Led f S) R us b → Stop (first rest) → alt f q r (us ++ rest) ≡ Ok (b, rest)
+  alt_complete : (us rest : List T) (b : B) → length (us ++ rest) ≤ n → Or (TokenThen f S) R us b → Stop (first rest) → alt f q r (us ++ rest) ≡ Ok (b, rest)
   alt_complete us rest b fits (inl (t, a, vs, cut, takes, s)) stop =
       let whole : us ++ rest ≡ t ∷ (vs ++ rest) = ap (λ x. x ++ rest) cut in
       let fits' : length (vs ++ rest) ≤ n - 1 = omega (arith, subst (λ x. length x ≤ n) whole fits) in
@@ -233,17 +233,17 @@ module _ {T A B : Type 0} (n : ℕ) (Stop : Option T → Type 0) (f : T → Opti
   alt_complete us rest b fits (inr s) stop =
       skipped f q r (us ++ rest) (apart us rest b s stop) ∙ right_r.complete us rest b fits s stop
 
-  led_goes : (t : T) (a : A) (us : List T) → f t ≡ Some a → (us ≡ []) ⊎ Goes (S' a) us → Goes (Or (Led f S') R') (t ∷ us)
+  led_goes : (t : T) (a : A) (us : List T) → f t ≡ Some a → (us ≡ []) ⊎ IsViablePrefix (S' a) us → IsViablePrefix (Or (TokenThen f S') R') (t ∷ us)
   led_goes t a us takes (inl e) = let s = some' a in (s.0, s.1, inl (t, a, s.0, ap (λ x. t ∷ (x ++ s.0)) e, takes, s.2))
   led_goes t a us takes (inr g) = (g.0, g.1, inl (t, a, us ++ g.0, refl, takes, g.2))
 
-  other_goes : (us : List T) → (us ≡ []) ⊎ Goes R' us → (us ≡ []) ⊎ Goes (Or (Led f S') R') us
+  other_goes : (us : List T) → (us ≡ []) ⊎ IsViablePrefix R' us → (us ≡ []) ⊎ IsViablePrefix (Or (TokenThen f S') R') us
   other_goes us (inl e) = inl e
   other_goes us (inr g) = inr (g.0, g.1, inr g.2)
 
   alt_refuses : (ts : List T) (k : ℕ) → length ts ≤ n → alt f q r ts ≡ Err (Grammar k) →
-      (us : List T) × (rest : List T) × (ts ≡ us ++ rest) × ((us ≡ []) ⊎ Goes (Or (Led f S') R') us)
-      × ((more : List T) → length (us ++ more) ≤ n → Like rest more → alt f q r (us ++ more) ≡ Err (Grammar (length more)))
+      (us : List T) × (rest : List T) × (ts ≡ us ++ rest) × ((us ≡ []) ⊎ IsViablePrefix (Or (TokenThen f S') R') us)
+      × ((more : List T) → length (us ++ more) ≤ n → SameLookahead rest more → alt f q r (us ++ more) ≡ Err (Grammar (length more)))
   alt_refuses ts k fits e = elim (look f ts) [
     | inl (t, a, us, cut, takes) ↦
         let fits' : length us ≤ n - 1 = omega (arith, subst (λ x. length x ≤ n) cut fits) in
@@ -260,7 +260,7 @@ module _ {T A B : Type 0} (n : ℕ) (Stop : Option T → Type 0) (f : T → Opti
   ]
 
   alt_deepens : (ts : List T) (k : ℕ) → length ts ≤ n → alt f q r ts ≡ Err (Deep k) →
-      (us : List T) × (t : T) × (rest : List T) × (ts ≡ us ++ t ∷ rest) × ((us ≡ []) ⊎ Goes (Or (Led f S') R') us) × Goes (Or (Led f S') R') (us ++ t ∷ [])
+      (us : List T) × (t : T) × (rest : List T) × (ts ≡ us ++ t ∷ rest) × ((us ≡ []) ⊎ IsViablePrefix (Or (TokenThen f S') R') us) × IsViablePrefix (Or (TokenThen f S') R') (us ++ t ∷ [])
       × ((more : List T) → length (us ++ t ∷ more) ≤ n → alt f q r (us ++ t ∷ more) ≡ Err (Deep (suc (length more))))
   alt_deepens ts k fits e = elim (look f ts) [
     | inl (t, a, us, cut, takes) ↦
@@ -286,20 +286,20 @@ module _ {T A B : Type 0} (n : ℕ) (Stop : Option T → Type 0) (f : T → Opti
         )
   ]
 
-  pub right_alt_by : Right n Stop (Or (Led f S) R) (Or (Led f S') R') (alt f q r)
+  pub right_alt_by : ReadsRule n Stop (Or (TokenThen f S) R) (Or (TokenThen f S') R') (alt f q r)
   right_alt_by = record { wider = alt_wide; ended = right_r.ended; sound = alt_sound; complete = alt_complete; refuses = alt_refuses; deepens = alt_deepens }
 
 pub right_alt : {T A B : Type 0} (n : ℕ) (Stop : Option T → Type 0) (f : T → Option A) (S S' : A → List T → B → Type 0) (R R' : List T → B → Type 0)
-    (q : A → Reader T B) (r : Reader T B) → ((a : A) → Right (n - 1) Stop (S a) (S' a) (q a)) → Right n Stop R R' r →
+    (q : A → Reader T B) (r : Reader T B) → ((a : A) → ReadsRule (n - 1) Stop (S a) (S' a) (q a)) → ReadsRule n Stop R R' r →
     ((a : A) → (us : List T) × (b : B) × S a us b) →
-    ((us rest : List T) (b : B) → R us b → Stop (first rest) → Skips f (us ++ rest)) → Right n Stop (Or (Led f S) R) (Or (Led f S') R') (alt f q r)
+    ((us rest : List T) (b : B) → R us b → Stop (first rest) → Skips f (us ++ rest)) → ReadsRule n Stop (Or (TokenThen f S) R) (Or (TokenThen f S') R') (alt f q r)
 right_alt n Stop f S S' R R' q r right_q right_r some = right_alt_by n Stop f S S' R R' q r right_q right_r
     (λ a. let s = some a in (s.0, s.1, (right_q a).wider s.0 s.1 s.2))
 
 -- ---- another reader that gives the same, another rule that says the same
 
 pub right_ext : {T A : Type 0} (n : ℕ) (Stop : Option T → Type 0) (S W : List T → A → Type 0) (p q : Reader T A) →
-    ((ts : List T) → length ts ≤ n → q ts ≡ p ts) → Right n Stop S W p → Right n Stop S W q
+    ((ts : List T) → length ts ≤ n → q ts ≡ p ts) → ReadsRule n Stop S W p → ReadsRule n Stop S W q
 right_ext n Stop S W p q same right = record {
   wider = right.wider;
   ended = right.ended;
@@ -315,16 +315,16 @@ right_ext n Stop S W p q same right = record {
       (us, t, rest, cut, goes, opens, λ more all. same (us ++ t ∷ more) all ∙ again more all);
 }
 
-pub goes_by : {T A : Type 0} (S R : List T → A → Type 0) → ((us : List T) (a : A) → S us a → R us a) → (us : List T) → Goes S us → Goes R us
+pub goes_by : {T A : Type 0} (S R : List T → A → Type 0) → ((us : List T) (a : A) → S us a → R us a) → (us : List T) → IsViablePrefix S us → IsViablePrefix R us
 goes_by S R to us g = (g.0, g.1, to (us ++ g.0) g.1 g.2)
 
-pub maybe_by : {T A : Type 0} (S R : List T → A → Type 0) → ((us : List T) (a : A) → S us a → R us a) → (us : List T) → (us ≡ []) ⊎ Goes S us → (us ≡ []) ⊎ Goes R us
+pub maybe_by : {T A : Type 0} (S R : List T → A → Type 0) → ((us : List T) (a : A) → S us a → R us a) → (us : List T) → (us ≡ []) ⊎ IsViablePrefix S us → (us ≡ []) ⊎ IsViablePrefix R us
 maybe_by S R to us (inl e) = inl e
 maybe_by S R to us (inr g) = inr (goes_by S R to us g)
 
 pub right_same : {T A : Type 0} (n : ℕ) (Stop : Option T → Type 0) (S S' R R' : List T → A → Type 0) (p : Reader T A) →
     ((us : List T) (a : A) → S us a → R us a) → ((us : List T) (a : A) → R us a → S us a) →
-    ((us : List T) (a : A) → S' us a → R' us a) → Right n Stop S S' p → Right n Stop R R' p
+    ((us : List T) (a : A) → S' us a → R' us a) → ReadsRule n Stop S S' p → ReadsRule n Stop R R' p
 right_same n Stop S S' R R' p to from to' right = record {
   wider = λ us a s. to' us a (right.wider us a (from us a s));
   ended = right.ended;
@@ -336,7 +336,7 @@ right_same n Stop S S' R R' p to from to' right = record {
 }
 
 pub right_stop : {T A : Type 0} (n : ℕ) (Stop Less : Option T → Type 0) (S W : List T → A → Type 0) (p : Reader T A) →
-    ((x : Option T) → Less x → Stop x) → Less None → Right n Stop S W p → Right n Less S W p
+    ((x : Option T) → Less x → Stop x) → Less None → ReadsRule n Stop S W p → ReadsRule n Less S W p
 right_stop n Stop Less S W p sub ended right = record {
   wider = right.wider;
   ended = ended;
@@ -346,8 +346,8 @@ right_stop n Stop Less S W p sub ended right = record {
   deepens = right.deepens;
 }
 
-pub right_pred : {T A : Type 0} {Stop : Option T → Type 0} {S W : List T → A → Type 0} {p : List T → Outcome T A} (n : ℕ) → Right n Stop S W p → Right (suc n - 1) Stop S W p
-right_pred {T} {A} {Stop} {S} {W} {p} n right = let same : n ≡ suc n - 1 = omega arith in subst (λ k. Right k Stop S W p) same right
+pub right_pred : {T A : Type 0} {Stop : Option T → Type 0} {S W : List T → A → Type 0} {p : List T → Outcome T A} (n : ℕ) → ReadsRule n Stop S W p → ReadsRule (suc n - 1) Stop S W p
+right_pred {T} {A} {Stop} {S} {W} {p} n right = let same : n ≡ suc n - 1 = omega arith in subst (λ k. ReadsRule k Stop S W p) same right
 
 -- ---- one nesting too many
 
@@ -366,8 +366,8 @@ module _ {T A B : Type 0} (f : T → Option A) (r : Reader T B) where
   passed (t ∷ us) skips = passed_at t us (f t) refl skips
 
 pub right_bar : {T A B : Type 0} (n : ℕ) (Stop : Option T → Type 0) (f : T → Option A) (S' : A → List T → B → Type 0) (R R' : List T → B → Type 0) (r : Reader T B) →
-    Right n Stop R R' r → ((a : A) → (us : List T) × (b : B) × S' a us b) →
-    ((us rest : List T) (b : B) → R us b → Stop (first rest) → Skips f (us ++ rest)) → Right n Stop R (Or (Led f S') R') (bar f r)
+    ReadsRule n Stop R R' r → ((a : A) → (us : List T) × (b : B) × S' a us b) →
+    ((us rest : List T) (b : B) → R us b → Stop (first rest) → Skips f (us ++ rest)) → ReadsRule n Stop R (Or (TokenThen f S') R') (bar f r)
 right_bar n Stop f S' R R' r right opens apart = record {
   wider = λ us b s. inr (right.wider us b s);
   ended = right.ended;
@@ -382,7 +382,7 @@ right_bar n Stop f S' R R' r right opens apart = record {
     | inl (t, a, us, cut, takes) ↦ absurd (let bad = sym (barred_at f r t us a takes) ∙ sym (ap (bar f r) cut) ∙ e in cc)
     | inr skips ↦
         let (us, rest, cut, goes, again) = right.refuses ts k fits (sym (passed f r ts skips) ∙ e) in
-        (us, rest, cut, maybe_by R' (Or (Led f S') R') (λ us b s. inr s) us goes, λ more all like. passed f r (us ++ more) (Skips-like f us rest more like (subst (Skips f) cut skips)) ∙ again more all like)
+        (us, rest, cut, maybe_by R' (Or (TokenThen f S') R') (λ us b s. inr s) us goes, λ more all like. passed f r (us ++ more) (Skips-like f us rest more like (subst (Skips f) cut skips)) ∙ again more all like)
   ];
   deepens = λ ts k fits e. elim (look f ts) [
     | inl (t, a, us, cut, takes) ↦
@@ -394,7 +394,7 @@ right_bar n Stop f S' R R' r right opens apart = record {
           s,
           rest,
           cut,
-          maybe_by R' (Or (Led f S') R') (λ us b s. inr s) us goes,
+          maybe_by R' (Or (TokenThen f S') R') (λ us b s. inr s) us goes,
           (w, b, inr deep),
           λ more all. passed f r (us ++ s ∷ more) (Skips-like f us (s ∷ rest) (s ∷ more) (inr refl) (subst (Skips f) cut skips)) ∙ again more all,
         )
@@ -404,12 +404,12 @@ right_bar n Stop f S' R R' r right opens apart = record {
 -- ---- any number
 
 module _ {T A B : Type 0} (Stop StopQ : Option T → Type 0) (f : T → Option A) (S S' : A → List T → B → Type 0) (q : A → Reader T B)
-    (right_q : (n : ℕ) (a : A) → Right n StopQ (S a) (S' a) (q a)) (some : (a : A) → (us : List T) × (b : B) × S a us b)
+    (right_q : (n : ℕ) (a : A) → ReadsRule n StopQ (S a) (S' a) (q a)) (some : (a : A) → (us : List T) × (b : B) × S a us b)
     (ended : Stop None) (stops : (t : T) (a : A) → Stop (Some t) → f t ≡ Some a → ⊥)
     (ends : (x : Option T) → Stop x → StopQ x) (next : (t : T) (a : A) → f t ≡ Some a → StopQ (Some t)) where
   -- one turn, as the parts have it
   abbrev Turn : (A → List T → B → Type 0) → List T → List B → Type 0
-  Turn R = Or (Led f (λ a. Then (R a) (λ b. Then (Many f R) (λ bs. Only (b ∷ bs))))) (Only [])
+  Turn R = Or (TokenThen f (λ a. Then (R a) (λ b. Then (Many f R) (λ bs. Empty (b ∷ bs))))) (Empty [])
 
   to_many : (R : A → List T → B → Type 0) (us : List T) (bs : List B) → Turn R us bs → Many f R us bs
   to_many R us bs (inl (t, a, vs, cut, takes, (b, ws, xs, cut', s, (bs', ys, zs, cut'', m, (e, e'))))) =
@@ -425,10 +425,10 @@ module _ {T A B : Type 0} (Stop StopQ : Option T → Type 0) (f : T → Option A
   many_begins us [] rest e stop = subst (λ x. StopQ (first (x ++ rest))) (sym e) (ends (first rest) stop)
   many_begins us (b ∷ bs) rest (t, a, vs, ws, cut, takes, s, m) stop = subst (λ x. StopQ (first (x ++ rest))) (sym cut) (next t a takes)
 
-  no_turn : (us rest : List T) (bs : List B) → Only [] us bs → Stop (first rest) → Skips f (us ++ rest)
+  no_turn : (us rest : List T) (bs : List B) → Empty [] us bs → Stop (first rest) → Skips f (us ++ rest)
   no_turn us rest bs (e, e') stop = λ t a is takes. stops t a (subst Stop (ap (λ x. first (x ++ rest)) (sym e) ∙ is) stop) takes
 
-  right_from : (n : ℕ) → Right n Stop (Many f S) (Many f S') (many_from f q n)
+  right_from : (n : ℕ) → ReadsRule n Stop (Many f S) (Many f S') (many_from f q n)
   right_from zero = right_zero
     where
       nothing : (us : List T) (bs : List B) → length us ≤ 0 → Many f S us bs → (us ≡ []) × (bs ≡ [])
@@ -439,7 +439,7 @@ module _ {T A B : Type 0} (Stop StopQ : Option T → Type 0) (f : T → Option A
       wide us [] e = e
       wide us (b ∷ bs) (t, a, vs, ws, cut, takes, s, m) = (t, a, vs, ws, cut, takes, (right_q 0 a).wider vs b s, wide ws bs m)
 
-      right_zero : Right 0 Stop (Many f S) (Many f S') (many_from f q 0)
+      right_zero : ReadsRule 0 Stop (Many f S) (Many f S') (many_from f q 0)
       right_zero = record {
         wider = wide;
         ended = ended;
@@ -484,7 +484,7 @@ module _ {T A B : Type 0} (Stop StopQ : Option T → Type 0) (f : T → Option A
       same_led later (Some x) = same_then later x (q x ts) refl
       same_led later None = refl
 
-  pub right_many : (n : ℕ) → Right n Stop (Many f S) (Many f S') (many f q)
+  pub right_many : (n : ℕ) → ReadsRule n Stop (Many f S) (Many f S') (many f q)
   unfolding many
   right_many n = right_ext n Stop (Many f S) (Many f S') (many_from f q n) (many f q)
       (λ ts fits. same_from (length ts) n ts (omega arith) fits) (right_from n)
@@ -514,14 +514,14 @@ pub begins_then : {T A B : Type 0} (P : T → Type 0) (S : List T → A → Type
 begins_then P S R begins us b (a, vs, ws, cut, s, r) =
     let (t, xs, cut', h) = begins vs a s in (t, xs ++ ws, cut ∙ ap (λ x. x ++ ws) cut', h)
 
-pub begins_led : {T A B : Type 0} (P : T → Type 0) (f : T → Option A) (S : A → List T → B → Type 0) → ((t : T) (a : A) → f t ≡ Some a → P t) → Begins P (Led f S)
+pub begins_led : {T A B : Type 0} (P : T → Type 0) (f : T → Option A) (S : A → List T → B → Type 0) → ((t : T) (a : A) → f t ≡ Some a → P t) → Begins P (TokenThen f S)
 begins_led P f S to us b (t, a, vs, cut, takes, s) = (t, vs, cut, to t a takes)
 
 pub begins_or : {T B : Type 0} (P : T → Type 0) (S R : List T → B → Type 0) → Begins P S → Begins P R → Begins P (Or S R)
 begins_or P S R bs br us b (inl s) = bs us b s
 begins_or P S R bs br us b (inr r) = br us b r
 
-pub begins_nothing : {T B : Type 0} (P : T → Type 0) → Begins {A = B} P Nothing
+pub begins_nothing : {T B : Type 0} (P : T → Type 0) → Begins {A = B} P Fail
 begins_nothing P us b s = absurd s
 
 pub begins_as : {T B : Type 0} (P Q : T → Type 0) (S : List T → B → Type 0) → ((t : T) → P t → Q t) → Begins P S → Begins Q S
@@ -535,21 +535,21 @@ begins_skips P f S begins not us rest b s =
     λ t' a is takes. let same : t ≡ t' = let eq = sym (ap (λ x. first (x ++ rest)) cut) ∙ is in cc in not t' a (subst P same h) takes
 
 pub stop_skips : {T A B : Type 0} (Stop : Option T → Type 0) (f : T → Option A) → ((t : T) (a : A) → Stop (Some t) → f t ≡ Some a → ⊥) → (b : B) →
-    (us rest : List T) (c : B) → Only b us c → Stop (first rest) → Skips f (us ++ rest)
+    (us rest : List T) (c : B) → Empty b us c → Stop (first rest) → Skips f (us ++ rest)
 stop_skips Stop f not b us rest c (e, e') stop = λ t a is takes. not t a (subst Stop (ap (λ x. first (x ++ rest)) (sym e) ∙ is) stop) takes
 
 -- ---- a value made of what was read
 
 pub right_map : {T A B : Type 0} (n : ℕ) (Stop : Option T → Type 0) (S S' : List T → A → Type 0) (p : Reader T A) (g : A → B) →
-    Right n Stop S S' p → Right n Stop (Then S (λ a. Only (g a))) (Then S' (λ a. Only (g a))) (p >>= (λ a. pure (g a)))
-right_map n Stop S S' p g right = right_then n Stop Stop S S' (λ a. Only (g a)) (λ a. Only (g a)) p (λ a. pure (g a)) right (λ a. right_pure n Stop right.ended (g a))
+    ReadsRule n Stop S S' p → ReadsRule n Stop (Then S (λ a. Empty (g a))) (Then S' (λ a. Empty (g a))) (p >>= (λ a. pure (g a)))
+right_map n Stop S S' p g right = right_then n Stop Stop S S' (λ a. Empty (g a)) (λ a. Empty (g a)) p (λ a. pure (g a)) right (λ a. right_pure n Stop right.ended (g a))
     (λ a vs rest b e stop. subst (λ x. Stop (first (x ++ rest))) (sym e.0) stop) (λ a. ([], g a, (refl, refl))) right.ended
 
 -- what a rule and a value made of it say
-pub of_map : {T A B : Type 0} (S : List T → A → Type 0) (g : A → B) (us : List T) (b : B) → Then S (λ a. Only (g a)) us b → (a : A) × S us a × (b ≡ g a)
+pub of_map : {T A B : Type 0} (S : List T → A → Type 0) (g : A → B) (us : List T) (b : B) → Then S (λ a. Empty (g a)) us b → (a : A) × S us a × (b ≡ g a)
 of_map S g us b (a, vs, ws, cut, s, (e, e')) = (a, subst (λ x. S x a) (sym (cut ∙ ap (λ x. vs ++ x) e ∙ append-nil vs)) s, e')
 
-pub to_map : {T A B : Type 0} (S : List T → A → Type 0) (g : A → B) (us : List T) (a : A) → S us a → Then S (λ a. Only (g a)) us (g a)
+pub to_map : {T A B : Type 0} (S : List T → A → Type 0) (g : A → B) (us : List T) (a : A) → S us a → Then S (λ a. Empty (g a)) us (g a)
 to_map S g us a s = (a, us, [], sym (append-nil us), s, (refl, refl))
 
 -- what stands first in any number of turns and behind them
@@ -561,10 +561,10 @@ many_first Stop StopQ f S ends next us rest (b ∷ bs) (t, a, vs, ws, cut, takes
 
 -- one token
 pub right_one : {T A : Type 0} (n : ℕ) (Stop : Option T → Type 0) → Stop None → (f : T → Option A) →
-    Right n Stop (Led f (λ a. Only a)) (Led f (λ a. Only a)) (alt f pure refuse)
+    ReadsRule n Stop (TokenThen f (λ a. Empty a)) (TokenThen f (λ a. Empty a)) (alt f pure refuse)
 right_one {T} {A} n Stop ended f =
-    let R : List T → A → Type 0 = Led f (λ a. Only a) in
-    right_same n Stop (Or R Nothing) (Or R Nothing) R R (alt f pure refuse) (λ us b s. elim s [ inl r ↦ r | inr none ↦ absurd none ]) (λ us b s. inl s)
+    let R : List T → A → Type 0 = TokenThen f (λ a. Empty a) in
+    right_same n Stop (Or R Fail) (Or R Fail) R R (alt f pure refuse) (λ us b s. elim s [ inl r ↦ r | inr none ↦ absurd none ]) (λ us b s. inl s)
     (λ us b s. elim s [ inl r ↦ r | inr none ↦ absurd none ])
-    (right_alt n Stop f (λ a. Only a) (λ a. Only a) Nothing Nothing pure refuse
+    (right_alt n Stop f (λ a. Empty a) (λ a. Empty a) Fail Fail pure refuse
     (λ a. right_pure (n - 1) Stop ended a) (right_nothing n Stop ended) (λ a. ([], a, (refl, refl))) (λ us rest b s stop. absurd s))

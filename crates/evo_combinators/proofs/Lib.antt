@@ -1,7 +1,7 @@
 pub mod Laws
-pub mod Deeper
+pub mod GrowsWithNesting
 pub mod Faults
-pub mod Turns
+pub mod AtDepth
 pub mod GuardLaws
 pub mod RunLaws
 pub mod RunTurns

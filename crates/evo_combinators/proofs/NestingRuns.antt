@@ -2,10 +2,10 @@
 use Rattle.std.specs.Prelude.{◌≡◌, ℕ, zero, suc, ◌-◌, ◌≤◌, Bool, true, false, cond, List, [], ◌∷◌, ◌++◌, length, Option, Some, Ok, Err, refl}
 use Rattle.std.proofs.Common.{sym, ◌∙◌, subst, inl, inr}
 use Rattle.evo_combinators.specs.declared.Fault.TheVariants.{Grammar}
-use Rattle.evo_combinators.specs.Rule.{Only, Nothing, One, Or, Then}
+use Rattle.evo_combinators.specs.Rule.{Empty, Fail, One, Or, Then}
 use Rattle.evo_combinators.specs.Reader.{Outcome, Reader, and_then, ◌>>=◌, pure, refuse, one}
 use Rattle.evo_combinators.specs.Guard.{starts, on, ahead, On, Run, run_from, run}
-use Rattle.evo_combinators.specs.Laws.{Right}
+use Rattle.evo_combinators.specs.Laws.{ReadsRule}
 use Rattle.evo_combinators.specs.Nesting.{left_of}
 use Rattle.evo_combinators.proofs.Laws.{of_map}
 use Rattle.evo_combinators.proofs.Nesting.{Nest, nest_pure, nest_refuse, nest_then, nest_by, nest_quiet, nest_choose}
@@ -25,8 +25,8 @@ module _ {T : Type 0} (Q : Type 0) (opens : T → Bool) where
 
   -- one token that opens nothing
   pub nest_one : {A : Type 0} (n : ℕ) (f : T → Option A) → ((t : T) (a : A) → f t ≡ Some a → opens t ≡ true → ⊥) → Nest n Q opens (One f) (one f)
-  nest_one n f quiet = nest_by Q opens n (Or (One f) Nothing) (One f) (one f) (λ us a s. elim s [ inl token ↦ token | inr none ↦ absurd none ])
-      (nest_quiet Q opens n f (λ a. Only a) Nothing pure refuse quiet (λ a. nest_pure Q opens (n - 1) (Only a) a) (nest_refuse Q opens n Nothing))
+  nest_one n f quiet = nest_by Q opens n (Or (One f) Fail) (One f) (one f) (λ us a s. elim s [ inl token ↦ token | inr none ↦ absurd none ])
+      (nest_quiet Q opens n f (λ a. Empty a) Fail pure refuse quiet (λ a. nest_pure Q opens (n - 1) (Empty a) a) (nest_refuse Q opens n Fail))
 
   -- a look at the first token, which the reader itself takes
   abbrev glance : List T → Bool → Outcome T (Unit {0})
@@ -45,12 +45,12 @@ module _ {T : Type 0} (Q : Type 0) (opens : T → Bool) where
 
   -- a repetition with a state
   module _ {B St : Type 0} (StopQ : Option T → Type 0) (g : St → T → Bool) (S S' : St → List T → B → Type 0) (q : St → Reader T B) (next : St → B → St)
-      (right_q : (n : ℕ) (s : St) → Right n StopQ (S s) (S' s) (q s)) (nest_q : (n : ℕ) (s : St) → Nest n Q opens (S s) (q s)) where
+      (right_q : (n : ℕ) (s : St) → ReadsRule n StopQ (S s) (S' s) (q s)) (nest_q : (n : ℕ) (s : St) → Nest n Q opens (S s) (q s)) where
     -- one turn, as the parts have it
     abbrev Later : St → B → List T → List B → Type 0
-    Later s b = Then (Run S next (next s b)) (λ bs. Only (b ∷ bs))
+    Later s b = Then (Run S next (next s b)) (λ bs. Empty (b ∷ bs))
 
-    to_run : (s : St) (us : List T) (bs : List B) → Or (Then (S s) (Later s)) (Only []) us bs → Run S next s us bs
+    to_run : (s : St) (us : List T) (bs : List B) → Or (Then (S s) (Later s)) (Empty []) us bs → Run S next s us bs
     to_run s us bs (inl (b, vs, ws, cut, r, m)) =
         let (bs', m', e) = of_map (Run S next (next s b)) (λ bs. b ∷ bs) ws bs m in
         subst (Run S next s us) (sym e) (vs, ws, cut, r, m')
@@ -58,12 +58,12 @@ module _ {T : Type 0} (Q : Type 0) (opens : T → Bool) where
 
     nest_from : (m n : ℕ) (s : St) → Nest n Q opens (Run S next s) (run_from g q next m s)
     nest_from zero n s = nest_pure Q opens n (Run S next s) []
-    nest_from (suc m) n s = nest_by Q opens n (Or (Then (S s) (Later s)) (Only [])) (Run S next s) _ (to_run s)
-        (nest_choose Q opens n (starts (g s)) (Then (S s) (Later s)) (Only []) _ (pure [])
+    nest_from (suc m) n s = nest_by Q opens n (Or (Then (S s) (Later s)) (Empty [])) (Run S next s) _ (to_run s)
+        (nest_choose Q opens n (starts (g s)) (Then (S s) (Later s)) (Empty []) _ (pure [])
         (nest_then Q opens n StopQ (S s) (S' s) (Later s) (q s) _ (right_q n s) (nest_q n s)
         (λ b. nest_made Q opens n (Run S next (next s b)) (run_from g q next m (next s b)) (λ bs. b ∷ bs) (nest_from m n (next s b)))
         (λ held b. ([], b ∷ [], ([], [], [], refl, refl, (refl, refl)))))
-        (nest_pure Q opens n (Only []) []))
+        (nest_pure Q opens n (Empty []) []))
 
     pub nest_run : (n : ℕ) (s : St) → Nest n Q opens (Run S next s) (run g q next s)
     unfolding run

@@ -4,11 +4,11 @@ use Rattle.std.proofs.Common.{sym, ◌∙◌, ap, subst, inl, inr, arith, append
 use Rattle.std.proofs.lemmas.Bool.Decides.{Decides-eqb}
 use Rattle.evo_combinators.specs.declared.Fault.{Fault}
 use Rattle.evo_combinators.specs.declared.Fault.TheVariants.{Grammar, Deep}
-use Rattle.evo_combinators.specs.Rule.{Only, Or, Then, Goes, Some_of}
+use Rattle.evo_combinators.specs.Rule.{Empty, Or, Then, IsViablePrefix, SomeOf}
 use Rattle.evo_combinators.specs.Reader.{Outcome, Reader, and_then, ◌>>=◌, pure}
 use Rattle.evo_combinators.specs.Guard.{starts, ahead, On, Run}
 use Rattle.evo_combinators.specs.Attempt.{attempted, attempt, further, tries_from, tries}
-use Rattle.evo_combinators.specs.Laws.{Begins, Right}
+use Rattle.evo_combinators.specs.Laws.{Begins, ReadsRule}
 use Rattle.evo_combinators.specs.Nesting.{left_of, Keeps, DeepOpens}
 use Rattle.evo_combinators.proofs.Laws.{of_map}
 use Rattle.evo_combinators.proofs.GuardLaws.{starts_is, starts_same}
@@ -24,7 +24,7 @@ deep_made : {T A B : Type 0} (g : A → B) (o : Outcome T A) (k : ℕ) → and_t
 deep_made g (Ok x) k e = absurd cc
 deep_made g (Err d) k e = let same : d ≡ Deep k = cc in ap (λ x. Err x) same
 
-goes_made : {T A B : Type 0} (S : List T → A → Type 0) (g : A → B) (us : List T) → Goes S us → Goes (Then S (λ a. Only (g a))) us
+goes_made : {T A B : Type 0} (S : List T → A → Type 0) (g : A → B) (us : List T) → IsViablePrefix S us → IsViablePrefix (Then S (λ a. Empty (g a))) us
 goes_made S g us (more, a, s) = (more, g a, (a, us ++ more, [], sym (append-nil (us ++ more)), s, (refl, refl)))
 
 -- what was tried stands no further, unless nothing was read
@@ -51,7 +51,7 @@ deep_attempted {T} {A} (Err (Grammar j)) ts k e = absurd (go (j == length ts) e)
     go false e = cc
 
 module _ {T : Type 0} (Q : Type 0) (opens : T → Bool) where
-  pub nest_made : {A B : Type 0} (n : ℕ) (S : List T → A → Type 0) (p : Reader T A) (g : A → B) → Nest n Q opens S p → Nest n Q opens (Then S (λ a. Only (g a))) (p >>= (λ a. pure (g a)))
+  pub nest_made : {A B : Type 0} (n : ℕ) (S : List T → A → Type 0) (p : Reader T A) (g : A → B) → Nest n Q opens S p → Nest n Q opens (Then S (λ a. Empty (g a))) (p >>= (λ a. pure (g a)))
   nest_made n S p g nest = record {
     keeps = λ us t more fits is le.
         let (held, goes) = nest.keeps us t more fits is (subst (λ k. k ≤ length more) (left_made g (p (us ++ t ∷ more))) le) in
@@ -60,7 +60,7 @@ module _ {T : Type 0} (Q : Type 0) (opens : T → Bool) where
   }
 
   abbrev Maybe : {A : Type 0} → (List T → A → Type 0) → List T → Option A → Type 0
-  Maybe S = Or (Then S (λ a. Only (Some a))) (Only None)
+  Maybe S = Or (Then S (λ a. Empty (Some a))) (Empty None)
 
   pub nest_attempt : {A : Type 0} (n : ℕ) (S : List T → A → Type 0) (p : Reader T A) → Nest n Q opens S p → Nest n Q opens (Maybe S) (attempt p)
   nest_attempt {A} n S p nest = record {
@@ -85,7 +85,7 @@ module _ {T : Type 0} (Q : Type 0) (opens : T → Bool) where
     nest_ahead = record { keeps = λ us t more fits is le. keeps us t more fits is le (starts g (us ++ t ∷ more)) refl; deep = λ ts k fits e. deep ts k fits e (starts g ts) refl }
       where
         keeps : (us : List T) (t : T) (more : List T) → length (us ++ t ∷ more) ≤ n → opens t ≡ true → left_of ((ahead g >>= (λ _. p)) (us ++ t ∷ more)) ≤ length more →
-            (b : Bool) → starts g (us ++ t ∷ more) ≡ b → Q × Goes (On g S) (us ++ t ∷ [])
+            (b : Bool) → starts g (us ++ t ∷ more) ≡ b → Q × IsViablePrefix (On g S) (us ++ t ∷ [])
         keeps us t more fits is le true begins =
             let (held, (w, a, s)) = nest.keeps us t more fits is (subst (λ o. left_of o ≤ length more) (looks (us ++ t ∷ more) true begins) le) in
             (held, (w, a, begun us w t more a begins s))
@@ -99,12 +99,12 @@ module _ {T : Type 0} (Q : Type 0) (opens : T → Bool) where
 
   -- any number
   module _ {B St : Type 0} (StopQ : Option T → Type 0) (S S' : St → List T → B → Type 0) (q : St → Reader T B) (next : St → B → St) (P : St → T → Type 0)
-      (right_q : (n : ℕ) (s : St) → Right n StopQ (S s) (S' s) (q s)) (some : (s : St) (b : B) → S s [] b → ⊥)
+      (right_q : (n : ℕ) (s : St) → ReadsRule n StopQ (S s) (S' s) (q s)) (some : (s : St) (b : B) → S s [] b → ⊥)
       (begins : (s : St) → Begins (P s) (S' s)) (nest_q : (n : ℕ) (s : St) → Nest n Q opens (S s) (q s)) where
     -- one turn, as the parts have it
     abbrev More : (St → List T → B → Type 0) → St → Option B → List T → List B → Type 0
-    More R s None = Only []
-    More R s (Some b) = Then (Run R next (next s b)) (λ bs. Only (b ∷ bs))
+    More R s None = Empty []
+    More R s (Some b) = Then (Run R next (next s b)) (λ bs. Empty (b ∷ bs))
 
     to_run : (s : St) (us : List T) (bs : List B) → Then (Maybe (S s)) (More S s) us bs → Run S next s us bs
     to_run s us bs (o, vs, ws, cut, inl (b, xs, ys, cut', r, (none, is)), m) = behind o is m
@@ -124,7 +124,7 @@ module _ {T : Type 0} (Q : Type 0) (opens : T → Bool) where
     End : Option T → Type 0
     End x = x ≡ None
 
-    tried : (n : ℕ) (s : St) → Right n End (Maybe (S s)) (Maybe (S' s)) (attempt (q s))
+    tried : (n : ℕ) (s : St) → ReadsRule n End (Maybe (S s)) (Maybe (S' s)) (attempt (q s))
     unfolding End
     tried n s = right_attempt StopQ (S s) (S' s) (q s) (λ n. right_q n s) (some s) End (P s) (begins s) refl
         (λ x e. subst StopQ (sym e) (right_q 0 s).ended) (λ t e h. cc) n
@@ -139,7 +139,7 @@ module _ {T : Type 0} (Q : Type 0) (opens : T → Bool) where
         nest_further n s later nests None = nest_pure Q opens n (More S s None) []
         nest_further n s later nests (Some b) = nests b
 
-        some_more : (s : St) (o : Option B) → Some_of (More S s o)
+        some_more : (s : St) (o : Option B) → SomeOf (More S s o)
         some_more s None = ([], [], (refl, refl))
         some_more s (Some b) = ([], b ∷ [], ([], [], [], refl, refl, (refl, refl)))
 

@@ -3,20 +3,20 @@ use Rattle.std.specs.Prelude.{◌≡◌, ℕ, zero, suc, ◌≤◌, Bool, true, 
 use Rattle.std.proofs.Common.{sym, ◌∙◌, ap, subst, inl, inr, arith, length-append}
 use Rattle.evo_combinators.specs.declared.Fault.TheVariants.{Grammar}
 use Rattle.evo_combinators.specs.Reader.{Outcome, Reader, and_then, ◌>>=◌, pure}
-use Rattle.evo_combinators.specs.Rule.{Only, Or, Then}
+use Rattle.evo_combinators.specs.Rule.{Empty, Or, Then}
 use Rattle.evo_combinators.specs.Guard.{starts, ahead, On, Run, run_from, run}
-use Rattle.evo_combinators.proofs.Laws.{Like-refl, right_same, right_then_by, right_map, right_pure, right_ext, ok_parts, ok_both, split_err, to_map, of_map}
+use Rattle.evo_combinators.proofs.Laws.{SameLookahead-refl, right_same, right_then_by, right_map, right_pure, right_ext, ok_parts, ok_both, split_err, to_map, of_map}
 use Rattle.evo_combinators.proofs.GuardLaws.{starts_is, right_on, ahead_yes, right_ahead}
-use Rattle.evo_combinators.specs.Laws.{Begins, Enters, Right, first, of_first}
+use Rattle.evo_combinators.specs.Laws.{Begins, Enters, ReadsRule, first, of_first}
 
 module _ {T B St : Type 0} (Stop StopQ : Option T → Type 0) (g : St → T → Bool) (S S' : St → List T → B → Type 0) (q : St → Reader T B) (next : St → B → St)
-    (right_q : (n : ℕ) (s : St) → Right n StopQ (S s) (S' s) (q s))
+    (right_q : (n : ℕ) (s : St) → ReadsRule n StopQ (S s) (S' s) (q s))
     (begins : (s : St) → Begins (λ t. g s t ≡ true) (S s)) (entered : (s : St) (t : T) (us : List T) → g s t ≡ true → q s (t ∷ us) ≡ Err (Grammar (suc (length us))) → ⊥)
     (ended : Stop None) (stops : (s : St) (x : Option T) → Stop x → of_first (g s) x ≡ false)
     (ends : (x : Option T) → Stop x → StopQ x) (follow : (s : St) (b : B) (t : T) → g (next s b) t ≡ true → StopQ (Some t)) where
   -- one turn, as the parts have it
   abbrev Turn : (St → List T → B → Type 0) → St → List T → List B → Type 0
-  Turn R s = Or (Then (R s) (λ b. Then (Run R next (next s b)) (λ bs. Only (b ∷ bs)))) (Only [])
+  Turn R s = Or (Then (R s) (λ b. Then (Run R next (next s b)) (λ bs. Empty (b ∷ bs)))) (Empty [])
 
   to_run : (R : St → List T → B → Type 0) (s : St) (us : List T) (bs : List B) → Turn R s us bs → Run R next s us bs
   to_run R s us bs (inl (b, vs, ws, cut, r, m)) =
@@ -35,13 +35,13 @@ module _ {T B St : Type 0} (Stop StopQ : Option T → Type 0) (g : St → T → 
       let (t, xs, cut', is) = begins (next s b) vs c r in
       subst (λ x. StopQ (first (x ++ rest))) (sym (cut ∙ ap (λ x. x ++ ws) cut')) (follow s b t is)
 
-  no_turn : (s : St) (us rest : List T) (bs : List B) → Only [] us bs → Stop (first rest) → starts (g s) (us ++ rest) ≡ false
+  no_turn : (s : St) (us rest : List T) (bs : List B) → Empty [] us bs → Stop (first rest) → starts (g s) (us ++ rest) ≡ false
   no_turn s us rest bs (e, e') stop = ap (λ x. starts (g s) (x ++ rest)) e ∙ starts_is (g s) rest ∙ stops s (first rest) stop
 
   less : (s : St) (n : ℕ) (us vs : List T) (b : B) → S s us b → length (us ++ vs) ≤ suc n → length vs ≤ n
   less s n us vs b r fits = let (t, xs, cut, is) = begins s us b r in omega (arith, length-append us vs, ap length cut)
 
-  enters : (n : ℕ) (s : St) (later : B → Reader T (List B)) (L W : B → List T → List B → Type 0) → ((b : B) → Right n Stop (L b) (W b) (later b)) →
+  enters : (n : ℕ) (s : St) (later : B → Reader T (List B)) (L W : B → List T → List B → Type 0) → ((b : B) → ReadsRule n Stop (L b) (W b) (later b)) →
       Enters (suc n) (g s) (q s >>= later)
   enters n s later L W right t us fits is bad = elim (split_err (q s (t ∷ us)) later (Grammar (suc (length us))) bad) [
     | inl here ↦ entered s t us is here
@@ -51,12 +51,12 @@ module _ {T B St : Type 0} (Stop StopQ : Option T → Type 0) (g : St → T → 
         let (x, xs, cut', is') = begins s vs b r in
         let short : length mid ≤ length us = omega (arith, ap length cut, length-append vs mid, ap length cut') in
         let (us', rest, cut'', goes, again') = (right b).refuses mid (suc (length us)) (omega arith) bad' in
-        let here = again' rest (subst (λ x. length x ≤ n) cut'' (omega arith)) (Like-refl rest) in
+        let here = again' rest (subst (λ x. length x ≤ n) cut'' (omega arith)) (SameLookahead-refl rest) in
         let count : suc (length us) ≡ length rest = let both = sym bad' ∙ ap (later b) cut'' ∙ here in cc in
         omega (arith, ap length cut'', length-append us' rest)
   ]
 
-  right_from : (n : ℕ) (s : St) → Right n Stop (Run S next s) (Run S' next s) (run_from g q next n s)
+  right_from : (n : ℕ) (s : St) → ReadsRule n Stop (Run S next s) (Run S' next s) (run_from g q next n s)
   right_from zero s = right_zero
     where
       nothing : (us : List T) (bs : List B) → length us ≤ 0 → Run S next s us bs → (us ≡ []) × (bs ≡ [])
@@ -67,7 +67,7 @@ module _ {T B St : Type 0} (Stop StopQ : Option T → Type 0) (g : St → T → 
       wide s us [] e = e
       wide s us (b ∷ bs) (vs, ws, cut, r, m) = (vs, ws, cut, (right_q 0 s).wider vs b r, wide (next s b) ws bs m)
 
-      right_zero : Right 0 Stop (Run S next s) (Run S' next s) (run_from g q next 0 s)
+      right_zero : ReadsRule 0 Stop (Run S next s) (Run S' next s) (run_from g q next 0 s)
       right_zero = record {
         wider = wide s;
         ended = ended;
@@ -117,7 +117,7 @@ module _ {T B St : Type 0} (Stop StopQ : Option T → Type 0) (g : St → T → 
       same_turn true later o e = same_then later (q s ts) refl
       same_turn false later o e = refl
 
-  pub right_run : (n : ℕ) (s : St) → Right n Stop (Run S next s) (Run S' next s) (run g q next s)
+  pub right_run : (n : ℕ) (s : St) → ReadsRule n Stop (Run S next s) (Run S' next s) (run g q next s)
   unfolding run
   right_run n s = right_ext n Stop (Run S next s) (Run S' next s) (run_from g q next n s) (run g q next s)
       (λ ts fits. same_from (length ts) n s ts (omega arith) fits) (right_from n s)
@@ -149,14 +149,14 @@ module _ {T B St : Type 0} (g : St → T → Bool) (q : St → Reader T B) (next
   looks_same s ts = looks_from (length ts) s ts
 
   module _ (Stop StopQ : Option T → Type 0) (S S' : St → List T → B → Type 0)
-      (right_q : (n : ℕ) (s : St) → Right n StopQ (S s) (S' s) (q s)) (some : (s : St) (b : B) → S s [] b → ⊥)
+      (right_q : (n : ℕ) (s : St) → ReadsRule n StopQ (S s) (S' s) (q s)) (some : (s : St) (b : B) → S s [] b → ⊥)
       (entered : (s : St) (t : T) (us : List T) → g s t ≡ true → q s (t ∷ us) ≡ Err (Grammar (suc (length us))) → ⊥)
       (ended : Stop None) (stops : (s : St) (x : Option T) → Stop x → of_first (g s) x ≡ false)
       (ends : (x : Option T) → Stop x → StopQ x) (follow : (s : St) (b : B) (t : T) → g (next s b) t ≡ true → StopQ (Some t)) where
     abbrev Seen : (St → List T → B → Type 0) → St → List T → B → Type 0
     Seen R s = On (g s) (R s)
 
-    pub right_run_on : (n : ℕ) (s : St) → Right n Stop (Run (Seen S) next s) (Run (Seen S') next s) (run g q next s)
+    pub right_run_on : (n : ℕ) (s : St) → ReadsRule n Stop (Run (Seen S) next s) (Run (Seen S') next s) (run g q next s)
     right_run_on n s =
         right_ext n Stop (Run (Seen S) next s) (Run (Seen S') next s) (run g Looks next s) (run g q next s) (λ ts fits. looks_same s ts)
         (right_run Stop StopQ g (Seen S) (Seen S') Looks next

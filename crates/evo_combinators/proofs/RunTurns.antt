@@ -3,7 +3,7 @@ use Rattle.std.specs.Prelude.{◌≡◌, ℕ, suc, ◌+◌, ◌-◌, ◌<◌, �
 use Rattle.std.proofs.Common.{◌∙◌, ap, arith, append-nil}
 use Rattle.evo_combinators.specs.declared.Fault.{Fault}
 use Rattle.evo_combinators.specs.Reader.{Outcome, Reader, and_then, ◌>>=◌, pure, with_front}
-use Rattle.evo_combinators.proofs.Turns.{front_none, front_more}
+use Rattle.evo_combinators.proofs.AtDepth.{front_none, front_more}
 use Rattle.evo_combinators.specs.Guard.{starts, run_from, run}
 
 module _ {T B St : Type 0} (g : St → T → Bool) (q : St → Reader T B) (next : St → B → St) where

@@ -6,8 +6,8 @@ use Rattle.std.proofs.lemmas.List.{drop-drop}
 use Rattle.evo_combinators.specs.declared.Fault.TheVariants.{Grammar, Deep}
 use Rattle.evo_combinators.specs.Reader.{Outcome, Reader}
 use Rattle.evo_combinators.specs.Nesting.{left_of}
-use Rattle.evo_combinators.specs.Rule.{Goes}
-use Rattle.evo_combinators.specs.Laws.{first, NoneGoes, Ends, Grammar_of}
+use Rattle.evo_combinators.specs.Rule.{IsViablePrefix}
+use Rattle.evo_combinators.specs.Laws.{first, NoneGoes, Ends, GrammarOf}
 use Rattle.evo_combinators.specs.Contract.{IsReadTo, IsRefusedAt, IsDeepAt, IsShallow, IsRefusedIn}
 use Rattle.evo_combinators.proofs.Faults.{ok_says, grammar_says, deep_says}
 use Rattle.evo_combinators.proofs.Nesting.{Nest}
@@ -19,7 +19,7 @@ same_parts [] (v ∷ vs) x y xs ys e l = absurd (omega (arith, ap length e, leng
 same_parts (u ∷ us) [] x y xs ys e l = absurd (omega (arith, ap length e, length-append us (x ∷ xs)))
 same_parts (u ∷ us) (v ∷ vs) x y xs ys e l = let rest : us ++ x ∷ xs ≡ vs ++ y ∷ ys = cc in same_parts us vs x y xs ys rest l
 
-module _ {T A : Type 0} (Stop : Option T → Type 0) (Q : Type 0) (opening : T → Bool) (S : ℕ → List T → A → Type 0) (p : ℕ → Reader T A) (gram : Grammar_of Stop S p)
+module _ {T A : Type 0} (Stop : Option T → Type 0) (Q : Type 0) (opening : T → Bool) (S : ℕ → List T → A → Type 0) (p : ℕ → Reader T A) (gram : GrammarOf Stop S p)
     (d : ℕ) (nest : (n : ℕ) → Nest n Q opening (S d) (p d)) (ps : List T) (at : ℕ) (le : at ≤ length ps) where
   pub read_left : (x : A) (rest : List T) → p d (drop at ps) ≡ Ok (x, rest) → length rest ≤ length ps
   read_left x rest is = let (us, cut, s, ends) = ok_says Stop S p gram d (drop at ps) rest x is in left_within ps us rest at cut le
@@ -40,11 +40,11 @@ module _ {T A : Type 0} (Stop : Option T → Type 0) (Q : Type 0) (opening : T �
       let size : left_of (p d (slice_range ps at i ++ t ∷ drop (suc i) ps)) ≡ left = ap (λ ts. left_of (p d ts)) (sym cut) ∙ ap left_of is ∙ stops in
       let n = length (slice_range ps at i ++ t ∷ drop (suc i) ps) in
       let (held, goes) = (nest n).keeps (slice_range ps at i) t (drop (suc i) ps) (omega arith) opens (omega (arith, size, length-drop (suc i) ps, first_within ps i t there)) in
-      subst (Goes (S d)) (sym (range_next ps at i t from there)) goes
+      subst (IsViablePrefix (S d)) (sym (range_next ps at i t from there)) goes
 
-  goes_from : (us rest : List T) → drop at ps ≡ us ++ rest → (us ≡ []) ⊎ Goes (S (suc d)) us → (length ps - length rest ≡ at) ⊎ Goes (S (suc d)) (slice_range ps at (length ps - length rest))
+  goes_from : (us rest : List T) → drop at ps ≡ us ++ rest → (us ≡ []) ⊎ IsViablePrefix (S (suc d)) us → (length ps - length rest ≡ at) ⊎ IsViablePrefix (S (suc d)) (slice_range ps at (length ps - length rest))
   goes_from us rest cut (inl none) = inl (omega (arith, slice_end ps us rest at cut le, ap length none))
-  goes_from us rest cut (inr goes) = inr (subst (Goes (S (suc d))) (sym (slice_front ps us rest at cut le)) goes)
+  goes_from us rest cut (inr goes) = inr (subst (IsViablePrefix (S (suc d))) (sym (slice_front ps us rest at cut le)) goes)
 
   ends_from : (us rest : List T) → drop at ps ≡ us ++ rest → Ends S us rest → length ps - length rest < length ps → NoneGoes S (slice_range ps at (length ps - length rest + 1))
   ends_from us rest cut ends less = let (g, first_is) = some_left ps us rest at cut le less in subst (NoneGoes S) (sym (slice_next ps us rest at cut le g first_is)) (ends g first_is)
@@ -72,8 +72,8 @@ module _ {T A : Type 0} (Stop : Option T → Type 0) (Q : Type 0) (opening : T �
         token = t;
         is = there us t rest cut;
         opens = subst (λ u. opening u ≡ true) (sym same) opens';
-        goes = subst (Goes (S (suc d))) (sym next) opens;
-        deep = λ goes. deep (subst (Goes (S d)) next goes);
+        goes = subst (IsViablePrefix (S (suc d))) (sym next) opens;
+        deep = λ goes. deep (subst (IsViablePrefix (S d)) next goes);
         shallow = subst (λ n. IsShallow opening S d ps at (length ps - n)) count (shallow (Err (Deep left)) left is refl);
       })
     where
@@ -84,7 +84,7 @@ module _ {T A : Type 0} (Stop : Option T → Type 0) (Q : Type 0) (opening : T �
 
 -- ---- all tokens
 
-module _ {T A : Type 0} (Stop : Option T → Type 0) (Q : Type 0) (opening : T → Bool) (S : ℕ → List T → A → Type 0) (p : ℕ → Reader T A) (gram : Grammar_of Stop S p)
+module _ {T A : Type 0} (Stop : Option T → Type 0) (Q : Type 0) (opening : T → Bool) (S : ℕ → List T → A → Type 0) (p : ℕ → Reader T A) (gram : GrammarOf Stop S p)
     (d : ℕ) (nest : (n : ℕ) → Nest n Q opening (S d) (p d)) (ps : List T) where
   pub whole : (x : A) → p d ps ≡ Ok (x, []) → S d ps x
   whole x is = let (us, cut, s, ends) = ok_says Stop S p gram d ps [] x is in subst (λ us. S d us x) (sym (cut ∙ append-nil us)) s
@@ -95,7 +95,7 @@ module _ {T A : Type 0} (Stop : Option T → Type 0) (Q : Type 0) (opening : T �
       let (us, cut, s, ends) = ok_says Stop S p gram d ps (t ∷ rest) x is in
       let zero_le : 0 ≤ length ps = omega arith in record {
         within = omega arith;
-        goes = inr (subst (Goes (S (suc d))) (sym (slice_front ps us (t ∷ rest) 0 cut zero_le)) ([], x, subst (λ vs. S (suc d) vs x) (sym (append-nil us)) ((gram.right d 0).wider us x s)));
+        goes = inr (subst (IsViablePrefix (S (suc d))) (sym (slice_front ps us (t ∷ rest) 0 cut zero_le)) ([], x, subst (λ vs. S (suc d) vs x) (sym (append-nil us)) ((gram.right d 0).wider us x s)));
         ends = ends_from Stop Q opening S p gram d nest ps 0 zero_le us (t ∷ rest) cut ends;
         none = λ same. absurd (omega (arith, same, slice_end ps us (t ∷ rest) 0 cut zero_le, ap length cut, length-append us (t ∷ rest)));
         shallow = shallow Stop Q opening S p gram d nest ps 0 zero_le (Ok (x, t ∷ rest)) (length (t ∷ rest)) is refl;

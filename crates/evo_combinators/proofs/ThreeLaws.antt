@@ -6,13 +6,13 @@ use Rattle.evo_combinators.specs.Reader.{Outcome, Reader, and_then, ◌>>=◌, o
 use Rattle.evo_combinators.specs.Rule.{Or}
 use Rattle.evo_combinators.specs.Guard.{starts, starts_two, second}
 use Rattle.evo_combinators.specs.Three.{starts_three, behind_first, three}
-use Rattle.evo_combinators.specs.Laws.{Like, Right, first}
-use Rattle.evo_combinators.proofs.Laws.{Like-refl}
+use Rattle.evo_combinators.specs.Laws.{SameLookahead, ReadsRule, first}
+use Rattle.evo_combinators.proofs.Laws.{SameLookahead-refl}
 use Rattle.evo_combinators.proofs.GuardLaws.{starts_is, right_choose, which}
 use Rattle.evo_combinators.proofs.Entered.{refused_within}
 
 -- what is too deep stands among the tokens
-module _ {T A : Type 0} (Stop : Option T → Type 0) (S W : List T → A → Type 0) (p : Reader T A) (right : (n : ℕ) → Right n Stop S W p) where
+module _ {T A : Type 0} (Stop : Option T → Type 0) (S W : List T → A → Type 0) (p : Reader T A) (right : (n : ℕ) → ReadsRule n Stop S W p) where
   pub deep_within : (ts : List T) (k : ℕ) → p ts ≡ Err (Deep k) → k ≤ length ts
   deep_within ts k e =
       let n = length ts in
@@ -27,7 +27,7 @@ one_takes f t a us e = ap (λ o. branch (paired o us) pure (refuse (t ∷ us))) 
 
 -- readers of three tokens and something behind them do not stop at these
 module _ {T A B C D : Type 0} (Stop : Option T → Type 0) (S W : A → List T → D → Type 0) (f : T → Option A) (g : T → Option B) (h : T → Option C) (q : A → Reader T D)
-    (right : (a : A) (n : ℕ) → Right n Stop (S a) (W a) (q a)) (t s u : T) (a : A) (b : B) (c : C) (takes : f t ≡ Some a) (takes' : g s ≡ Some b) (takes'' : h u ≡ Some c) (us : List T) where
+    (right : (a : A) (n : ℕ) → ReadsRule n Stop (S a) (W a) (q a)) (t s u : T) (a : A) (b : B) (c : C) (takes : f t ≡ Some a) (takes' : g s ≡ Some b) (takes'' : h u ≡ Some c) (us : List T) where
   abbrev Behind : Reader T D
   Behind = one f >>= (λ x. one g >>= (λ _. one h >>= (λ _. q x)))
 
@@ -83,7 +83,7 @@ three_other f g h p r t us isnt = ap (λ b. cond (behind_first b g h us) (p (t �
 -- `blocked`: the second reader refuses the third of three such tokens.
 -- `far`, `deep`: the first reader does not stop at one of them.
 module _ {T B : Type 0} (n : ℕ) (Stop : Option T → Type 0) (f g h : T → Bool) (S S' R R' : List T → B → Type 0) (p r : Reader T B)
-    (right_p : Right n Stop S S' p) (right_r : (n : ℕ) → Right n Stop R R' r)
+    (right_p : ReadsRule n Stop S S' p) (right_r : (n : ℕ) → ReadsRule n Stop R R' r)
     (triple : (us : List T) (b : B) → S us b → (t : T) × (s : T) × (u : T) × (vs : List T) × (us ≡ t ∷ (s ∷ (u ∷ vs))) × (f t ≡ true) × (g s ≡ true) × (h u ≡ true))
     (blocked : (t s u : T) (us : List T) → f t ≡ true → g s ≡ true → h u ≡ true → r (t ∷ (s ∷ (u ∷ us))) ≡ Err (Grammar (suc (length us))))
     (far : (t s u : T) (us : List T) (k : ℕ) → f t ≡ true → g s ≡ true → h u ≡ true → p (t ∷ (s ∷ (u ∷ us))) ≡ Err (Grammar k) → k ≤ length us)
@@ -127,7 +127,7 @@ module _ {T B : Type 0} (n : ℕ) (Stop : Option T → Type 0) (f g h : T → Bo
           let three : c ≡ u = cc in
           three_yes f g h a b c (us ++ more) (ap f one ∙ is) (ap g two ∙ is') (ap h three ∙ is'')
 
-  stay_p : (us rest more : List T) → length (us ++ rest) ≤ n → p (us ++ rest) ≡ Err (Grammar (length rest)) → C (us ++ rest) ≡ true → Like rest more →
+  stay_p : (us rest more : List T) → length (us ++ rest) ≤ n → p (us ++ rest) ≡ Err (Grammar (length rest)) → C (us ++ rest) ≡ true → SameLookahead rest more →
       (C (us ++ more) ≡ true) ⊎ ((C (us ++ more) ≡ false) × (r (us ++ more) ≡ Err (Grammar (length more))))
   stay_p us rest more fits bad is like =
       inl (longer us rest more is (λ xs t s u cut is' is'' is3. far t s u xs (length rest) is' is'' is3 (sym (ap p cut) ∙ bad)))
@@ -136,7 +136,7 @@ module _ {T B : Type 0} (n : ℕ) (Stop : Option T → Type 0) (f g h : T → Bo
   deep_p us rest more t bad is =
       longer us (t ∷ rest) (t ∷ more) is (λ xs t' s u cut is' is'' is3. deep t' s u xs (suc (length rest)) is' is'' is3 (sym (ap p cut) ∙ bad))
 
-  stay_r : (us rest more : List T) → r (us ++ rest) ≡ Err (Grammar (length rest)) → C (us ++ rest) ≡ false → Like rest more → r (us ++ more) ≡ Err (Grammar (length more)) → C (us ++ more) ≡ false
+  stay_r : (us rest more : List T) → r (us ++ rest) ≡ Err (Grammar (length rest)) → C (us ++ rest) ≡ false → SameLookahead rest more → r (us ++ more) ≡ Err (Grammar (length more)) → C (us ++ more) ≡ false
   stay_r us rest more bad isnt like bad' = elim (which (C (us ++ more))) [
     | inl is ↦
         let (t, s, u, xs, cut, is', is'', is3) = three_parts f g h (us ++ more) is in
@@ -145,7 +145,7 @@ module _ {T B : Type 0} (n : ℕ) (Stop : Option T → Type 0) (f g h : T → Bo
     | inr isnt' ↦ isnt'
   ]
     where
-      third : (t s u : T) (more rest : List T) → f t ≡ true → g s ≡ true → h u ≡ true → first more ≡ Some u → Like rest more → C (t ∷ (s ∷ rest)) ≡ false → ⊥
+      third : (t s u : T) (more rest : List T) → f t ≡ true → g s ≡ true → h u ≡ true → first more ≡ Some u → SameLookahead rest more → C (t ∷ (s ∷ rest)) ≡ false → ⊥
       third t s u more [] is is' is'' next (inl none) isnt = let both = sym next ∙ ap first none in cc
       third t s u more [] is is' is'' next (inr same) isnt = let both = sym next ∙ same in cc
       third t s u more (v ∷ rest) is is' is'' next (inl none) isnt = let both = sym next ∙ ap first none in cc
@@ -163,7 +163,7 @@ module _ {T B : Type 0} (n : ℕ) (Stop : Option T → Type 0) (f g h : T → Bo
           third a b u more rest (ap f one ∙ is) (ap g two ∙ is') is'' (ap first rests) like isnt
       go (a ∷ (b ∷ (c ∷ us))) t s u xs cut is is' is'' count isnt = omega (arith, ap length cut, length-append us more)
 
-  pub right_three : Right n Stop (Or S R) (Or S' R') (three f g h p r)
+  pub right_three : ReadsRule n Stop (Or S R) (Or S' R') (three f g h p r)
   right_three = right_choose n Stop C S S' R R' p r right_p (right_r n)
       (λ us rest b s stop. taken us rest b s) apart
       (λ us rest more b s is like. taken us more b s) (λ us rest more b s is like good. other (us ++ more) (Ok (b, more)) good (λ k bad. cc))

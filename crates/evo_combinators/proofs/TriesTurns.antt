@@ -4,7 +4,7 @@ use Rattle.std.proofs.Common.{◌∙◌, ap, arith, append-nil}
 use Rattle.evo_combinators.specs.declared.Fault.{Fault}
 use Rattle.evo_combinators.specs.Reader.{Outcome, Reader, and_then, ◌>>=◌, pure, with_front}
 use Rattle.evo_combinators.specs.Attempt.{attempt, further, tries_from, tries}
-use Rattle.evo_combinators.proofs.Turns.{front_none, front_more}
+use Rattle.evo_combinators.proofs.AtDepth.{front_none, front_more}
 
 module _ {T B St : Type 0} (q : St → Reader T B) (next : St → B → St) where
   abbrev pub TriesAfter : ℕ → List B → St → List T → Outcome T (List B)

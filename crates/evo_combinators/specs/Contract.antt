@@ -1,7 +1,7 @@
 -- What a rule says of tokens that are read, refused or nested too deeply: where each of these is, in the rule's own terms.
 -- S is a rule by how much nesting it allows, d how much may open, and `opening` the tokens that open one.
 use Rattle.std.specs.Prelude.{◌≡◌, ℕ, suc, ◌+◌, ◌≤◌, ◌<◌, Bool, true, List, length, drop, slice_range, Option, Some, ◌⊎◌}
-use Rattle.evo_combinators.specs.Rule.{Goes}
+use Rattle.evo_combinators.specs.Rule.{IsViablePrefix}
 use Rattle.evo_combinators.specs.Laws.{first, NoneGoes}
 
 -- The tokens from `at` to before `end` spell the value with this nesting, and no spelling goes on with the next one.
@@ -13,13 +13,13 @@ pub record IsReadTo {T A : Type 0} (S : ℕ → List T → A → Type 0) (d : �
 
 -- Each opening token before this one is within the nesting: spellings of it go on there.
 abbrev pub IsShallow : {T A : Type 0} → (T → Bool) → (ℕ → List T → A → Type 0) → ℕ → List T → ℕ → ℕ → Type 0
-IsShallow {T} opening S d ts at end = (i : ℕ) (t : T) → at ≤ i → i < end → first (drop i ts) ≡ Some t → opening t ≡ true → Goes (S d) (slice_range ts at (i + 1))
+IsShallow {T} opening S d ts at end = (i : ℕ) (t : T) → at ≤ i → i < end → first (drop i ts) ≡ Some t → opening t ≡ true → IsViablePrefix (S d) (slice_range ts at (i + 1))
 
 -- Spellings go on with the tokens before this one, none with it too, and none ends before it. No opening token before it is too deep.
 pub record IsRefusedAt {T A : Type 0} (opening : T → Bool) (S : ℕ → List T → A → Type 0) (d : ℕ) (ts : List T) (at end : ℕ) : Type 0 where
   pub from : at ≤ end
   pub within : end ≤ length ts
-  pub goes : (end ≡ at) ⊎ Goes (S (suc d)) (slice_range ts at end)
+  pub goes : (end ≡ at) ⊎ IsViablePrefix (S (suc d)) (slice_range ts at end)
   pub ends : end < length ts → NoneGoes S (slice_range ts at (end + 1))
   pub none : (m : ℕ) (x : A) → S m (slice_range ts at end) x → ⊥
   pub shallow : IsShallow opening S d ts at end
@@ -30,8 +30,8 @@ pub record IsDeepAt {T A : Type 0} (opening : T → Bool) (S : ℕ → List T �
   pub token : T
   pub is : first (drop end ts) ≡ Some token
   pub opens : opening token ≡ true
-  pub goes : Goes (S (suc d)) (slice_range ts at (end + 1))
-  pub deep : Goes (S d) (slice_range ts at (end + 1)) → ⊥
+  pub goes : IsViablePrefix (S (suc d)) (slice_range ts at (end + 1))
+  pub deep : IsViablePrefix (S d) (slice_range ts at (end + 1)) → ⊥
   pub shallow : IsShallow opening S d ts at end
 
 -- the answers for tokens from `at` on exclude each other, and each has one place
@@ -48,7 +48,7 @@ pub record OneAnswer {T A : Type 0} (opening : T → Bool) (S : ℕ → List T �
 -- Spellings go on with the tokens before this one and none with it too, or it is the end and no spelling ends there. No opening token before it is too deep.
 pub record IsRefusedIn {T A : Type 0} (opening : T → Bool) (S : ℕ → List T → A → Type 0) (d : ℕ) (ts : List T) (end : ℕ) : Type 0 where
   pub within : end ≤ length ts
-  pub goes : (end ≡ 0) ⊎ Goes (S (suc d)) (slice_range ts 0 end)
+  pub goes : (end ≡ 0) ⊎ IsViablePrefix (S (suc d)) (slice_range ts 0 end)
   pub ends : end < length ts → NoneGoes S (slice_range ts 0 (end + 1))
   pub none : end ≡ length ts → (m : ℕ) (x : A) → S m ts x → ⊥
   pub shallow : IsShallow opening S d ts 0 end

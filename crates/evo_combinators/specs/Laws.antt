@@ -2,15 +2,15 @@
 use Rattle.std.specs.Prelude.{◌≡◌, ℕ, suc, ◌-◌, ◌≤◌, Bool, true, false, List, [], ◌∷◌, ◌++◌, length, Option, Some, None, Ok, Err, ◌⊎◌}
 use Rattle.evo_combinators.specs.declared.Fault.TheVariants.{Grammar, Deep}
 use Rattle.evo_combinators.specs.Reader.{Outcome, Reader}
-use Rattle.evo_combinators.specs.Rule.{Goes}
+use Rattle.evo_combinators.specs.Rule.{IsViablePrefix}
 
 abbrev pub first : {T : Type 0} → List T → Option T
 first [] = None
 first (t ∷ ts) = Some t
 
 -- the same tokens as far as a reader that stops there can see, or the end
-abbrev pub Like : {T : Type 0} → List T → List T → Type 0
-Like rest more = (more ≡ []) ⊎ (first more ≡ first rest)
+abbrev pub SameLookahead : {T : Type 0} → List T → List T → Type 0
+SameLookahead rest more = (more ≡ []) ⊎ (first more ≡ first rest)
 
 -- The reader reads S, on lists up to a length. W is the same rule with more nesting, and Stop says what may follow.
 -- That tokens go on is said of W: a rule without nesting may have no spelling at all.
@@ -19,17 +19,17 @@ Like rest more = (more ≡ []) ⊎ (first more ≡ first rest)
 -- `complete`: what is spelled, followed by what may follow, is read.
 -- `refuses`: a refusal comes at the first token with which no spelling goes on.
 -- `deepens`: "too deep" comes at a token with which a spelling of one more nesting goes on.
-pub record Right {T A : Type 0} (n : ℕ) (Stop : Option T → Type 0) (S W : List T → A → Type 0) (p : List T → Outcome T A) : Type 0 where
+pub record ReadsRule {T A : Type 0} (n : ℕ) (Stop : Option T → Type 0) (S W : List T → A → Type 0) (p : List T → Outcome T A) : Type 0 where
   pub wider : (us : List T) (a : A) → S us a → W us a
   pub ended : Stop None
   pub sound : (ts rest : List T) (a : A) → length ts ≤ n → p ts ≡ Ok (a, rest) →
-      (us : List T) × (ts ≡ us ++ rest) × S us a × ((more : List T) → length (us ++ more) ≤ n → Like rest more → p (us ++ more) ≡ Ok (a, more))
+      (us : List T) × (ts ≡ us ++ rest) × S us a × ((more : List T) → length (us ++ more) ≤ n → SameLookahead rest more → p (us ++ more) ≡ Ok (a, more))
   pub complete : (us rest : List T) (a : A) → length (us ++ rest) ≤ n → S us a → Stop (first rest) → p (us ++ rest) ≡ Ok (a, rest)
   pub refuses : (ts : List T) (k : ℕ) → length ts ≤ n → p ts ≡ Err (Grammar k) →
-      (us : List T) × (rest : List T) × (ts ≡ us ++ rest) × ((us ≡ []) ⊎ Goes W us)
-      × ((more : List T) → length (us ++ more) ≤ n → Like rest more → p (us ++ more) ≡ Err (Grammar (length more)))
+      (us : List T) × (rest : List T) × (ts ≡ us ++ rest) × ((us ≡ []) ⊎ IsViablePrefix W us)
+      × ((more : List T) → length (us ++ more) ≤ n → SameLookahead rest more → p (us ++ more) ≡ Err (Grammar (length more)))
   pub deepens : (ts : List T) (k : ℕ) → length ts ≤ n → p ts ≡ Err (Deep k) →
-      (us : List T) × (t : T) × (rest : List T) × (ts ≡ us ++ t ∷ rest) × ((us ≡ []) ⊎ Goes W us) × Goes W (us ++ t ∷ [])
+      (us : List T) × (t : T) × (rest : List T) × (ts ≡ us ++ t ∷ rest) × ((us ≡ []) ⊎ IsViablePrefix W us) × IsViablePrefix W (us ++ t ∷ [])
       × ((more : List T) → length (us ++ t ∷ more) ≤ n → p (us ++ t ∷ more) ≡ Err (Deep (suc (length more))))
 
 -- no first token that `f` takes
@@ -58,17 +58,17 @@ abbrev pub Same : {T A : Type 0} → Outcome T A → Outcome T A → Type 0
 Same o o' = (o' ≡ o) ⊎ ((k : ℕ) × (o ≡ Err (Deep k)))
 
 -- the second reader reads the same as the first, but where the first meets one nesting too many
-abbrev pub Deeper : {T A : Type 0} → Reader T A → Reader T A → Type 0
-Deeper {T} p p' = (ts : List T) → Same (p ts) (p' ts)
+abbrev pub GrowsWithNesting : {T A : Type 0} → Reader T A → Reader T A → Type 0
+GrowsWithNesting {T} p p' = (ts : List T) → Same (p ts) (p' ts)
 
 -- a rule and its reader, by how much nesting they allow
-pub record Grammar_of {T A : Type 0} (Stop : Option T → Type 0) (S : ℕ → List T → A → Type 0) (p : ℕ → Reader T A) : Type 0 where
-  pub right : (d n : ℕ) → Right n Stop (S d) (S (suc d)) (p d)
-  pub deeper : (d : ℕ) → Deeper (p d) (p (suc d))
+pub record GrammarOf {T A : Type 0} (Stop : Option T → Type 0) (S : ℕ → List T → A → Type 0) (p : ℕ → Reader T A) : Type 0 where
+  pub right : (d n : ℕ) → ReadsRule n Stop (S d) (S (suc d)) (p d)
+  pub deeper : (d : ℕ) → GrowsWithNesting (p d) (p (suc d))
 
 -- no spelling of any nesting begins so
 abbrev pub NoneGoes : {T A : Type 0} → (ℕ → List T → A → Type 0) → List T → Type 0
-NoneGoes S us = (m : ℕ) → Goes (S m) us → ⊥
+NoneGoes S us = (m : ℕ) → IsViablePrefix (S m) us → ⊥
 
 -- the tokens before `rest` are the last that spellings go on with
 abbrev pub Ends : {T A : Type 0} → (ℕ → List T → A → Type 0) → List T → List T → Type 0

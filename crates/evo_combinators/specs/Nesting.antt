@@ -2,7 +2,7 @@
 use Rattle.std.specs.Prelude.{◌≡◌, ℕ, suc, ◌≤◌, Bool, true, List, [], ◌∷◌, ◌++◌, length, Ok, Err}
 use Rattle.evo_combinators.specs.declared.Fault.{Fault}
 use Rattle.evo_combinators.specs.declared.Fault.TheVariants.{Grammar, Deep}
-use Rattle.evo_combinators.specs.Rule.{Goes}
+use Rattle.evo_combinators.specs.Rule.{IsViablePrefix}
 use Rattle.evo_combinators.specs.Reader.{Outcome, Reader}
 
 abbrev pub left_at : Fault → ℕ
@@ -16,7 +16,7 @@ left_of (Err e) = left_at e
 
 -- With each opening token that the reader passes, on lists up to a length, a spelling goes on; and so Q holds.
 abbrev pub Keeps : {T A : Type 0} → ℕ → Type 0 → (T → Bool) → (List T → A → Type 0) → Reader T A → Type 0
-Keeps {T} n Q opens S p = (us : List T) (t : T) (more : List T) → length (us ++ t ∷ more) ≤ n → opens t ≡ true → left_of (p (us ++ t ∷ more)) ≤ length more → Q × Goes S (us ++ t ∷ [])
+Keeps {T} n Q opens S p = (us : List T) (t : T) (more : List T) → length (us ++ t ∷ more) ≤ n → opens t ≡ true → left_of (p (us ++ t ∷ more)) ≤ length more → Q × IsViablePrefix S (us ++ t ∷ [])
 
 -- Where nesting is too deep, the token opens one, on lists up to a length.
 abbrev pub DeepOpens : {T A : Type 0} → ℕ → (T → Bool) → Reader T A → Type 0

@@ -3,20 +3,20 @@
 use Rattle.std.specs.Prelude.{◌≡◌, List, [], ◌∷◌, ◌++◌, Option, Some, None, ◌⊎◌}
 
 -- no tokens, for this value
-abbrev pub Only : {T A : Type 0} → A → List T → A → Type 0
-Only a us b = (us ≡ []) × (b ≡ a)
+abbrev pub Empty : {T A : Type 0} → A → List T → A → Type 0
+Empty a us b = (us ≡ []) × (b ≡ a)
 
 -- no tokens spell anything
-abbrev pub Nothing : {T A : Type 0} → List T → A → Type 0
-Nothing us b = ⊥
+abbrev pub Fail : {T A : Type 0} → List T → A → Type 0
+Fail us b = ⊥
 
 -- a token that `f` takes, and then what S says
-abbrev pub Led : {T A B : Type 0} → (T → Option A) → (A → List T → B → Type 0) → List T → B → Type 0
-Led {T} {A} f S us b = (t : T) × (a : A) × (vs : List T) × (us ≡ t ∷ vs) × (f t ≡ Some a) × S a vs b
+abbrev pub TokenThen : {T A B : Type 0} → (T → Option A) → (A → List T → B → Type 0) → List T → B → Type 0
+TokenThen {T} {A} f S us b = (t : T) × (a : A) × (vs : List T) × (us ≡ t ∷ vs) × (f t ≡ Some a) × S a vs b
 
 -- one token that `f` takes
 abbrev pub One : {T A : Type 0} → (T → Option A) → List T → A → Type 0
-One f = Led f (λ a. Only a)
+One f = TokenThen f (λ a. Empty a)
 
 -- either rule
 abbrev pub Or : {T B : Type 0} → (List T → B → Type 0) → (List T → B → Type 0) → List T → B → Type 0
@@ -37,12 +37,12 @@ Repeat S us [] = us ≡ []
 Repeat {T} S us (b ∷ bs) = (vs : List T) × (ws : List T) × (us ≡ vs ++ ws) × S vs b × Repeat S ws bs
 
 -- some spelling begins with these tokens
-abbrev pub Goes : {T A : Type 0} → (List T → A → Type 0) → List T → Type 0
-Goes {T} {A} S us = (more : List T) × (a : A) × S (us ++ more) a
+abbrev pub IsViablePrefix : {T A : Type 0} → (List T → A → Type 0) → List T → Type 0
+IsViablePrefix {T} {A} S us = (more : List T) × (a : A) × S (us ++ more) a
 
 -- some tokens spell something
-abbrev pub Some_of : {T A : Type 0} → (List T → A → Type 0) → Type 0
-Some_of {T} {A} S = (us : List T) × (a : A) × S us a
+abbrev pub SomeOf : {T A : Type 0} → (List T → A → Type 0) → Type 0
+SomeOf {T} {A} S = (us : List T) × (a : A) × S us a
 
 -- the one thing of which P holds, or nothing where P holds of none
 abbrev pub IsOnly : {A : Type 0} → (A → Type 0) → Option A → Type 0

@@ -5,11 +5,11 @@ use Rattle.evo_first_form.specs.declared.Function.{Function}
 use Rattle.evo_first_form.specs.Interface.{interface_of}
 use Rattle.evo_first_form.specs.Rules.{BreaksNoRule, removed, removed_lines, report_of}
 use Rattle.evo_words.specs.declared.words.Job.{Job}
-use Rattle.evo_driver.specs.declared.stop.Which.{Which}
+use Rattle.evo_driver.specs.declared.stop.Input.{Input}
 use Rattle.evo_driver.specs.declared.stop.Refusal.{Refusal}
 use Rattle.evo_driver.specs.declared.stop.Refusal.TheVariants as refusal
-use Rattle.evo_driver.specs.declared.stop.Stop.{Stop}
-use Rattle.evo_driver.specs.declared.stop.Stop.TheVariants as stop
+use Rattle.evo_driver.specs.declared.stop.LoadError.{LoadError}
+use Rattle.evo_driver.specs.declared.stop.LoadError.TheVariants as stop
 use Rattle.evo_driver.specs.Files.{Holds, HoldsBoth, Refuses, Reaches, name_of, IsWrongLibrary, IsWrongClient}
 use Rattle.evo_words.specs.Words.{IsEvolve}
 use Rattle.evo_driver.specs.Answer.{Answer, Answers, report_answer}
@@ -28,8 +28,8 @@ no_client held interface (refusal.Source fault) h = absurd h
 no_client held interface refusal.InterfaceTooLong h = absurd h
 
 -- why a text is not had is why what it is to be is not had
-pub lacks_as : (wrong more : Refusal → Type 0) (sure : Type 0) (at : Which) (before now : ℕ) (failed : Bool) → ((why : Refusal) → wrong why → more why)
-    → (e : Stop) → LacksFile wrong sure at before now failed e → LacksFile more sure at before now failed e
+pub lacks_as : (wrong more : Refusal → Type 0) (sure : Type 0) (at : Input) (before now : ℕ) (failed : Bool) → ((why : Refusal) → wrong why → more why)
+    → (e : LoadError) → LacksFile wrong sure at before now failed e → LacksFile more sure at before now failed e
 lacks_as wrong more sure at before now failed so (stop.Refused which why) r = (r.0, r.1, so why r.2)
 lacks_as wrong more sure at before now failed so (stop.NotRead which) r = r
 lacks_as wrong more sure at before now failed so (stop.Broken names) r = r
@@ -47,11 +47,11 @@ broken_names held job old new i j names both p q are some =
     record { old = old; new = new; breaks = record { both = both; broken = λ none. some (is ∙ none) }; names_are = is }
 
 -- why a file is not had is why the job's files are not run, where the job comes to this file
-pub stops_at : (wrong : Refusal → Type 0) (sure : Type 0) (held : List ℕ → Option (List ℕ)) (gets : List ℕ → Type 0) (job : Job) (at : Which) (before mid now : ℕ) (failed : Bool)
+pub stops_at : (wrong : Refusal → Type 0) (sure : Type 0) (held : List ℕ → Option (List ℕ)) (gets : List ℕ → Type 0) (job : Job) (at : Input) (before mid now : ℕ) (failed : Bool)
     → mid ≡ before → Reaches held job at → (gets (name_of job at) → sure) → ((why : Refusal) → wrong why → Refuses held job at why)
-    → (e : Stop) → LacksFile wrong sure at mid now failed e → Stops held gets job before now failed e
-stops_at wrong sure held gets job at before mid now failed stands reaches grows refuses (stop.Refused which why) r = (r.0 ∙ stands, subst (λ (w : Which). Refuses held job w why) (sym r.1) (refuses why r.2))
-stops_at wrong sure held gets job at before mid now failed stands reaches grows refuses (stop.NotRead which) r = (rw (← stands) r.0, r.1, subst (Reaches held job) (sym r.2) reaches, λ h. r.3 (grows (subst (λ (w : Which). gets (name_of job w)) r.2 h)))
+    → (e : LoadError) → LacksFile wrong sure at mid now failed e → Stops held gets job before now failed e
+stops_at wrong sure held gets job at before mid now failed stands reaches grows refuses (stop.Refused which why) r = (r.0 ∙ stands, subst (λ (w : Input). Refuses held job w why) (sym r.1) (refuses why r.2))
+stops_at wrong sure held gets job at before mid now failed stands reaches grows refuses (stop.NotRead which) r = (rw (← stands) r.0, r.1, subst (Reaches held job) (sym r.2) reaches, λ h. r.3 (grows (subst (λ (w : Input). gets (name_of job w)) r.2 h)))
 stops_at wrong sure held gets job at before mid now failed stands reaches grows refuses (stop.Broken names) r = absurd r
 stops_at wrong sure held gets job at before mid now failed stands reaches grows refuses stop.Memory r = r ∙ stands
 

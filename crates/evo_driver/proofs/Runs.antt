@@ -5,11 +5,11 @@ use Rattle.evo_machine.specs.declared.machine.End.{End}
 use Rattle.evo_machine.specs.declared.machine.End.TheVariants.{Done, Budget}
 use Rattle.evo_machine.specs.Machine.{Executes}
 use Rattle.evo_build.specs.Meaning.{Ran, Ending, done, spent, stuck}
-use Rattle.evo_build.specs.Works.{DoesAs, EndsAs}
+use Rattle.evo_build.specs.Works.{DoesResult, EndsResult}
 use Rattle.evo_driver.specs.declared.status.Status.TheVariants as status
 use Rattle.evo_driver.specs.declared.reply.Reply.{Reply}
 use Rattle.evo_driver.specs.Top.{IsNoFault, Replies}
-use Rattle.evo_driver.specs.Top.{EndsAs as RepliesTo}
+use Rattle.evo_driver.specs.Top.{EndsResult as RepliesTo}
 use Rattle.evo_driver.specs.Answer.{Answer, EndsWith}
 
 -- how the machine ends where the source ends so
@@ -23,12 +23,12 @@ pub record Executed (image : List Function) (ticks : ℕ) (out : List ℕ) (endi
   pub is : EndIs ending end
   pub run : Executes image ticks (record { out = out; ending = end })
 
-executed-as : (image : List Function) (ticks : ℕ) (out : List ℕ) (e : Ending) → EndsAs image ticks out e → Executed image ticks out e
+executed-as : (image : List Function) (ticks : ℕ) (out : List ℕ) (e : Ending) → EndsResult image ticks out e → Executed image ticks out e
 executed-as image ticks out done h = record { end = Done; is = refl; run = h }
 executed-as image ticks out spent h = record { end = Budget; is = refl; run = h }
 executed-as image ticks out stuck h = absurd h
 
-pub executed : (image : List Function) (ticks : ℕ) (ran : Ran) → DoesAs image ticks ran → Executed image ticks ran.out ran.ending
+pub executed : (image : List Function) (ticks : ℕ) (ran : Ran) → DoesResult image ticks ran → Executed image ticks ran.out ran.ending
 executed image ticks ran h = executed-as image ticks ran.out ran.ending h
 
 -- the answer of a run, with what it writes

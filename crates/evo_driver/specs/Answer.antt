@@ -12,7 +12,7 @@ use Rattle.evo_words.specs.declared.words.Job.{Job}
 use Rattle.evo_words.specs.Words.{IsEvolve}
 use Rattle.evo_driver.specs.declared.status.Status.{Status}
 use Rattle.evo_driver.specs.declared.status.Status.TheVariants as status
-use Rattle.evo_driver.specs.declared.stop.Which.{Which}
+use Rattle.evo_driver.specs.declared.stop.Input.{Input}
 use Rattle.evo_driver.specs.declared.stop.Refusal.{Refusal}
 use Rattle.evo_driver.specs.declared.stop.Refusal.TheVariants as refusal
 use Rattle.evo_driver.specs.Files.{Accepts, Breaks, Refuses, Reaches, name_of}
@@ -54,14 +54,14 @@ AnswersRun ran a = EndsWith ran.out ran.ending a
 -- What the words and the files ask for, where nothing fails. The run is that of the client's source, with the new library's functions and the old bodies that the client copied.
 pub data Answers (words : List (List ℕ)) (held : List ℕ → Option (List ℕ)) : Answer → Type 0 where
   no_command : ((job : Job) → IsEvolve words job → ⊥) → Answers words held words_answer
-  refused : (job : Job) (at : Which) (why : Refusal) → IsEvolve words job → Refuses held job at why → Answers words held (refused_answer why (name_of job at))
+  refused : (job : Job) (at : Input) (why : Refusal) → IsEvolve words job → Refuses held job at why → Answers words held (refused_answer why (name_of job at))
   broken : (job : Job) (old new : List Function) → IsEvolve words job → Breaks held job old new → Answers words held (report_answer (report_of (interface_of job.library old) (interface_of job.library new)))
   ran : (job : Job) (old new : List Function) (client : Client) (a : Answer) → IsEvolve words job → Accepts held job old new client → AnswersRun (run_of (record { old = (interface_of job.library old).functions; new = new }) client.prints job.ticks) a → Answers words held a
 
 -- what is written where a file is not read
 pub record Unread (words : List (List ℕ)) (held : List ℕ → Option (List ℕ)) (gets : List ℕ → Type 0) (a : Answer) : Type 0 where
   pub job : Job
-  pub at : Which
+  pub at : Input
   pub asks : IsEvolve words job
   pub reaches : Reaches held job at
   pub may_fail : gets (name_of job at) → ⊥

@@ -13,8 +13,8 @@ use Rattle.evo_iface.specs.Text.{interface_text}
 use Rattle.evo_front.specs.Texts.{file_limit, interface_limit, IsLibraryText, IsClientText, IsUnbuiltLibrary, IsUnbuiltClient}
 use Rattle.evo_parse.specs.Text.{IsTextFault}
 use Rattle.evo_words.specs.declared.words.Job.{Job}
-use Rattle.evo_driver.specs.declared.stop.Which.{Which}
-use Rattle.evo_driver.specs.declared.stop.Which.TheVariants as which
+use Rattle.evo_driver.specs.declared.stop.Input.{Input}
+use Rattle.evo_driver.specs.declared.stop.Input.TheVariants as which
 use Rattle.evo_driver.specs.declared.stop.Refusal.{Refusal}
 use Rattle.evo_driver.specs.declared.stop.Refusal.TheVariants as refusal
 
@@ -72,7 +72,7 @@ HoldsLibrary held library functions = Holds held (λ text. IsShortLibrary librar
 abbrev pub HoldsClient : Option (List ℕ) → Interface → Client → Type 0
 HoldsClient held interface client = Holds held (λ text. IsShortClient interface text client)
 
-abbrev pub name_of : Job → Which → List ℕ
+abbrev pub name_of : Job → Input → List ℕ
 name_of job which.Old = job.old
 name_of job which.New = job.new
 name_of job which.Client = job.client
@@ -93,13 +93,13 @@ pub record Breaks (held : List ℕ → Option (List ℕ)) (job : Job) (old new :
   pub broken : BreaksNoRule (interface_of job.library old) (interface_of job.library new) → ⊥
 
 -- nothing that stands before this file's turn ends the job
-abbrev pub Reaches : (List ℕ → Option (List ℕ)) → Job → Which → Type 0
+abbrev pub Reaches : (List ℕ → Option (List ℕ)) → Job → Input → Type 0
 Reaches held job which.Old = Unit {0}
 Reaches held job which.New = (old : List Function) × HoldsLibrary (held job.old) job.library old
 Reaches held job which.Client = (old : List Function) × (new : List Function) × Passes held job old new
 
 -- the first file with which something is wrong, and what
-pub data Refuses (held : List ℕ → Option (List ℕ)) (job : Job) : Which → Refusal → Type 0 where
+pub data Refuses (held : List ℕ → Option (List ℕ)) (job : Job) : Input → Refusal → Type 0 where
   old_is_wrong : (why : Refusal) → Holds (held job.old) (IsWrongLibrary job.library why) → Refuses held job which.Old why
   new_is_wrong : (why : Refusal) (old : List Function) → HoldsLibrary (held job.old) job.library old → Holds (held job.new) (IsWrongLibrary job.library why) → Refuses held job which.New why
   client_is_wrong : (why : Refusal) (old new : List Function) → Passes held job old new → Holds (held job.client) (IsWrongClient (interface_of job.library old) why) → Refuses held job which.Client why

@@ -1,6 +1,6 @@
 -- What loading the files of a job answers.
 use Rattle.std.specs.Prelude.{◌≡◌, ◌+◌, ◌<◌, ◌≤◌, ℕ, List, length, Option, Bool, true, Result, Ok, Err}
-use Rattle.evo_base.specs.Causes.{Rose}
+use Rattle.evo_base.specs.Causes.{CountRose}
 use Rattle.evo_base.specs.Content.{IsFront}
 use Rattle.evo_first_form.specs.declared.Function.{Function}
 use Rattle.evo_first_form.specs.Interface.{interface_of}
@@ -10,26 +10,26 @@ use Rattle.evo_front.specs.declared.library.AcceptedLibrary.{AcceptedLibrary}
 use Rattle.evo_front.specs.Texts.{file_limit}
 use Rattle.evo_machine.specs.declared.image.Function.{Function as MachineFunction}
 use Rattle.evo_build.specs.Meaning.{Ran, run_of}
-use Rattle.evo_build.specs.Works.{DoesAs}
+use Rattle.evo_build.specs.Works.{DoesResult}
 use Rattle.evo_words.specs.declared.words.Job.{Job}
-use Rattle.evo_driver.specs.declared.stop.Which.{Which}
+use Rattle.evo_driver.specs.declared.stop.Input.{Input}
 use Rattle.evo_driver.specs.declared.stop.Refusal.{Refusal}
 use Rattle.evo_driver.specs.declared.stop.Refusal.TheVariants as refusal
-use Rattle.evo_driver.specs.declared.stop.Stop.{Stop}
-use Rattle.evo_driver.specs.declared.stop.Stop.TheVariants as stop
+use Rattle.evo_driver.specs.declared.stop.LoadError.{LoadError}
+use Rattle.evo_driver.specs.declared.stop.LoadError.TheVariants as stop
 use Rattle.evo_driver.specs.declared.load.Libraries.{Libraries}
 use Rattle.evo_driver.specs.declared.load.Loaded.{Loaded}
 use Rattle.evo_driver.specs.Files.{Holds, HoldsLibrary, Passes, Breaks, Accepts, Refuses, Reaches, name_of}
 
 -- Why one file is not had: before and now are the count of failed calls, and failed is whether the last call failed.
-abbrev pub LacksFile : (Refusal → Type 0) → Type 0 → Which → ℕ → ℕ → Bool → Stop → Type 0
+abbrev pub LacksFile : (Refusal → Type 0) → Type 0 → Input → ℕ → ℕ → Bool → LoadError → Type 0
 LacksFile wrong sure at before now failed (stop.Refused which why) = (now ≡ before) × (which ≡ at) × wrong why
-LacksFile wrong sure at before now failed (stop.NotRead which) = Rose before now × (failed ≡ true) × (which ≡ at) × (sure → ⊥)
+LacksFile wrong sure at before now failed (stop.NotRead which) = CountRose before now × (failed ≡ true) × (which ≡ at) × (sure → ⊥)
 LacksFile wrong sure at before now failed (stop.Broken names) = ⊥
 LacksFile wrong sure at before now failed stop.Memory = now ≡ before
 
 -- one file: what it holds, or why it is not had
-abbrev pub ReadsAs : {T : Type 0} → (T → Type 0) → (Refusal → Type 0) → Type 0 → Which → ℕ → ℕ → Bool → Result T Stop → Type 0
+abbrev pub ReadsAs : {T : Type 0} → (T → Type 0) → (Refusal → Type 0) → Type 0 → Input → ℕ → ℕ → Bool → Result T LoadError → Type 0
 ReadsAs holds wrong sure at before now failed (Ok x) = (now ≡ before) × holds x
 ReadsAs holds wrong sure at before now failed (Err e) = LacksFile wrong sure at before now failed e
 
@@ -72,17 +72,17 @@ pub record HasAll (held : List ℕ → Option (List ℕ)) (job : Job) (found : L
 
 module _ (held : List ℕ → Option (List ℕ)) (gets : List ℕ → Type 0) (job : Job) (before now : ℕ) (failed : Bool) where
   -- why a job's files are not run
-  abbrev pub Stops : Stop → Type 0
+  abbrev pub Stops : LoadError → Type 0
   Stops (stop.Refused at why) = (now ≡ before) × Refuses held job at why
-  Stops (stop.NotRead at) = Rose before now × (failed ≡ true) × Reaches held job at × (gets (name_of job at) → ⊥)
+  Stops (stop.NotRead at) = CountRose before now × (failed ≡ true) × Reaches held job at × (gets (name_of job at) → ⊥)
   Stops (stop.Broken names) = (now ≡ before) × LacksNames held job names
   Stops stop.Memory = now ≡ before
 
-  abbrev pub LoadsLibraries : Result Libraries Stop → Type 0
+  abbrev pub LoadsLibraries : Result Libraries LoadError → Type 0
   LoadsLibraries (Ok found) = (now ≡ before) × HasLibraries held job found
   LoadsLibraries (Err e) = Stops e
 
-  abbrev pub LoadsAs : Result Loaded Stop → Type 0
+  abbrev pub LoadsAs : Result Loaded LoadError → Type 0
   LoadsAs (Ok found) = (now ≡ before) × HasAll held job found
   LoadsAs (Err e) = Stops e
 
@@ -99,4 +99,4 @@ run_with loaded ticks = run_of (record { old = loaded.libraries.interface.functi
 
 -- the image does what the client's source does, for every number of ticks
 abbrev pub IsBuiltFrom : Loaded → List MachineFunction → Type 0
-IsBuiltFrom loaded image = (ticks : ℕ) → DoesAs image ticks (run_with loaded ticks)
+IsBuiltFrom loaded image = (ticks : ℕ) → DoesResult image ticks (run_with loaded ticks)

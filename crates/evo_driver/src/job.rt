@@ -5,24 +5,24 @@ ghost use Rattle.evo_iface.specs.Text.{IsPlain};
 ghost use Rattle.evo_words.specs.Module.{IsModule};
 ghost use Rattle.evo_words.specs.Words.{IsEvolve};
 ghost use Rattle.evo_driver.specs.Files.{name_of};
-ghost use Rattle.evo_driver.specs.Top.{GivesAs, Means};
+ghost use Rattle.evo_driver.specs.Top.{GivesResult, Means};
 
 use crate::load::load;
-use crate::reply::{Halt, Reply, not_understood, refused, unread};
+use crate::reply::{Reply, ReplyError, not_understood, refused, unread};
 use crate::report::report;
 use crate::run::run;
-use crate::stop::{Stop, Which};
+use crate::stop::{Input, LoadError};
 use evo_base::{Files, Name, Sink};
 use evo_words::{Job, job_of};
 use std::alloc::Global;
 
-fn name_at(job: &Job, at: Which) -> &Name
+fn name_at(job: &Job, at: Input) -> &Name
     ensures { result.now ≡ name_of job.now at }
 {
     match at {
-        Which::Old => &job.old,
-        Which::New => &job.new,
-        Which::Client => &job.client,
+        Input::Old => &job.old,
+        Input::New => &job.new,
+        Input::Client => &job.client,
     }
 }
 
@@ -40,18 +40,18 @@ fn evolve<F: Files, O: Sink>(
     job: &Job,
     files: &mut F,
     out: &mut O,
-) -> Result<Reply, Halt>
+) -> Result<Reply, ReplyError>
     requires { IsModule job.now.library }
-    ensures { (words : List (List ℕ)) → IsEvolve words job.now → GivesAs (Means words (F.held files.old) (F.gets files.old) (F.faults files.old) (F.faults files.new) (F.failed files.new))
+    ensures { (words : List (List ℕ)) → IsEvolve words job.now → GivesResult (Means words (F.held files.old) (F.gets files.old) (F.faults files.old) (F.faults files.new) (F.failed files.new))
         (O.written out.old) (O.written out.new) (O.faults out.old) (O.faults out.new) (O.takes out.old) (O.failed out.new) result }
 {
     known_plain(&job.library);
     match load(alloc, job, files) {
         Ok(loaded) => run(alloc, &loaded, job.ticks, out),
-        Err(Stop::Broken(names)) => report(alloc, &job.library, names.as_slice(), out),
-        Err(Stop::Refused(at, why)) => Ok(refused(alloc, name_at(job, at), why)?),
-        Err(Stop::NotRead(at)) => Ok(unread(alloc, name_at(job, at))?),
-        Err(Stop::Memory) => Err(Halt::Memory),
+        Err(LoadError::Broken(names)) => report(alloc, &job.library, names.as_slice(), out),
+        Err(LoadError::Refused(at, why)) => Ok(refused(alloc, name_at(job, at), why)?),
+        Err(LoadError::NotRead(at)) => Ok(unread(alloc, name_at(job, at))?),
+        Err(LoadError::Memory) => Err(ReplyError::Memory),
     }
 }
 
@@ -61,8 +61,8 @@ pub fn perform<F: Files, O: Sink>(
     words: &[Name],
     files: &mut F,
     out: &mut O,
-) -> Result<Reply, Halt>
-    ensures { GivesAs (Means words.now (F.held files.old) (F.gets files.old) (F.faults files.old) (F.faults files.new) (F.failed files.new))
+) -> Result<Reply, ReplyError>
+    ensures { GivesResult (Means words.now (F.held files.old) (F.gets files.old) (F.faults files.old) (F.faults files.new) (F.failed files.new))
         (O.written out.old) (O.written out.new) (O.faults out.old) (O.faults out.new) (O.takes out.old) (O.failed out.new) result }
 {
     match job_of(alloc, words)? {

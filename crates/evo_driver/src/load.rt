@@ -6,7 +6,7 @@ ghost use Rattle.evo_iface.specs.Text.{IsPlain};
 ghost use Rattle.evo_driver.specs.Files.{Holds, HoldsClient, IsWrongLibrary, IsWrongClient, unbuilt};
 ghost use Rattle.evo_driver.specs.Loading.{ReadsAs, IsShortText, IsWrongText, IsLibraryOf, LoadsLibraries, LoadsAs};
 
-use crate::stop::{Refusal, Stop, Which};
+use crate::stop::{Input, LoadError, Refusal};
 use evo_base::{FaultKind, Files, GetFault, List, Name, Place};
 use evo_first_form::{Client, Function, Interface};
 use evo_front::{
@@ -41,17 +41,22 @@ fn not_built() -> SourceFault
     }
 }
 
-fn text_of<F: Files>(alloc: Global, files: &mut F, name: &Name, at: Which) -> Result<Vec<u8>, Stop>
+fn text_of<F: Files>(
+    alloc: Global,
+    files: &mut F,
+    name: &Name,
+    at: Input,
+) -> Result<Vec<u8>, LoadError>
     ensures reads { ReadsAs (λ v. IsShortText (F.held files.old name.now) v.items) (IsWrongText (F.held files.old name.now))
         (F.gets files.old name.now) at (F.faults files.old) (F.faults files.new) (F.failed files.new) result }
     ensures same { (other : List ℕ) → F.held files.new other ≡ F.held files.old other }
     ensures gets { (other : List ℕ) → F.gets files.old other → F.gets files.new other }
 {
     match files.get(alloc, name, FILE_LIMIT as u64) {
-        Ok(text) if text.len() > FILE_LIMIT => Err(Stop::Refused(at, Refusal::TooLong)),
+        Ok(text) if text.len() > FILE_LIMIT => Err(LoadError::Refused(at, Refusal::TooLong)),
         Ok(text) => Ok(text),
-        Err(GetFault::Failed) => Err(Stop::NotRead(at)),
-        Err(GetFault::Memory) => Err(Stop::Memory),
+        Err(GetFault::Failed) => Err(LoadError::NotRead(at)),
+        Err(GetFault::Memory) => Err(LoadError::Memory),
     }
 }
 
@@ -60,8 +65,8 @@ fn get_library<F: Files>(
     files: &mut F,
     library: &Name,
     name: &Name,
-    at: Which,
-) -> Result<AcceptedLibrary, Stop>
+    at: Input,
+) -> Result<AcceptedLibrary, LoadError>
     requires { IsPlain 32 library.now }
     ensures reads { ReadsAs (IsLibraryOf (F.held files.old name.now) library.now) (λ why. Holds (F.held files.old name.now) (IsWrongLibrary library.now why))
         (F.gets files.old name.now) at (F.faults files.old) (F.faults files.new) (F.failed files.new) result }
@@ -71,10 +76,13 @@ fn get_library<F: Files>(
     let text = text_of(alloc, files, name, at)?;
     match accept_library(alloc, library, &text) {
         Ok(found) => Ok(found),
-        Err(LibraryFault::Refused(fault)) => Err(Stop::Refused(at, Refusal::Source(fault))),
-        Err(LibraryFault::NotBuilt) => Err(Stop::Refused(at, Refusal::Source(not_built()))),
-        Err(LibraryFault::InterfaceTooLong) => Err(Stop::Refused(at, Refusal::InterfaceTooLong)),
-        Err(LibraryFault::Memory) => Err(Stop::Memory),
+        Err(LibraryFault::Refused(fault)) => Err(LoadError::Refused(at, Refusal::Source(fault))),
+        Err(LibraryFault::NotBuilt) => Err(LoadError::Refused(at, Refusal::Source(not_built()))),
+        Err(LibraryFault::InterfaceTooLong) => Err(LoadError::Refused(
+            at,
+            Refusal::InterfaceTooLong,
+        )),
+        Err(LibraryFault::Memory) => Err(LoadError::Memory),
     }
 }
 
@@ -83,38 +91,38 @@ fn get_client<F: Files>(
     files: &mut F,
     interface: &Interface,
     name: &Name,
-) -> Result<Client, Stop>
+) -> Result<Client, LoadError>
     requires { IsAcceptedInterface interface.now }
     ensures reads { ReadsAs (HoldsClient (F.held files.old name.now) interface.now) (λ why. Holds (F.held files.old name.now) (IsWrongClient interface.now why))
-        (F.gets files.old name.now) Which.Client (F.faults files.old) (F.faults files.new) (F.failed files.new) result }
+        (F.gets files.old name.now) Input.Client (F.faults files.old) (F.faults files.new) (F.failed files.new) result }
     ensures same { (other : List ℕ) → F.held files.new other ≡ F.held files.old other }
     ensures gets { (other : List ℕ) → F.gets files.old other → F.gets files.new other }
 {
-    let text = text_of(alloc, files, name, Which::Client)?;
+    let text = text_of(alloc, files, name, Input::Client)?;
     match accept_client(alloc, interface, &text) {
         Ok(client) => Ok(client),
         Err(ClientFault::Refused(fault)) => {
-            Err(Stop::Refused(Which::Client, Refusal::Source(fault)))
+            Err(LoadError::Refused(Input::Client, Refusal::Source(fault)))
         }
         Err(ClientFault::NotBuilt) => {
-            Err(Stop::Refused(Which::Client, Refusal::Source(not_built())))
+            Err(LoadError::Refused(Input::Client, Refusal::Source(not_built())))
         }
-        Err(ClientFault::Memory) => Err(Stop::Memory),
+        Err(ClientFault::Memory) => Err(LoadError::Memory),
     }
 }
 
 // Reads both libraries, and tries the rules on their interfaces.
-fn load_libraries<F: Files>(alloc: Global, job: &Job, files: &mut F) -> Result<Libraries, Stop>
+fn load_libraries<F: Files>(alloc: Global, job: &Job, files: &mut F) -> Result<Libraries, LoadError>
     requires { IsPlain 32 job.now.library }
     ensures loads { LoadsLibraries (F.held files.old) (F.gets files.old) job.now (F.faults files.old) (F.faults files.new) (F.failed files.new) result }
     ensures same { (other : List ℕ) → F.held files.new other ≡ F.held files.old other }
     ensures gets { (other : List ℕ) → F.gets files.old other → F.gets files.new other }
 {
-    let old = get_library(alloc, files, &job.library, &job.old, Which::Old)?;
-    let new = get_library(alloc, files, &job.library, &job.new, Which::New)?;
+    let old = get_library(alloc, files, &job.library, &job.old, Input::Old)?;
+    let new = get_library(alloc, files, &job.library, &job.new, Input::New)?;
     let removed = breaks(alloc, &old.interface, &new.interface)?;
     if !removed.is_empty() {
-        return Err(Stop::Broken(List::from_vec(removed)));
+        return Err(LoadError::Broken(List::from_vec(removed)));
     }
     Ok(Libraries {
         interface: old.interface,
@@ -123,7 +131,7 @@ fn load_libraries<F: Files>(alloc: Global, job: &Job, files: &mut F) -> Result<L
 }
 
 /// Reads the files of a job in their order, and tries the rules before the client is read.
-pub fn load<F: Files>(alloc: Global, job: &Job, files: &mut F) -> Result<Loaded, Stop>
+pub fn load<F: Files>(alloc: Global, job: &Job, files: &mut F) -> Result<Loaded, LoadError>
     requires { IsPlain 32 job.now.library }
     ensures { LoadsAs (F.held files.old) (F.gets files.old) job.now (F.faults files.old) (F.faults files.new) (F.failed files.new) result }
 {

@@ -3,7 +3,7 @@
 ghost use Rattle.std.specs.Prelude.{◌≡◌, ◌++◌, [], None, IfOk, string_bytes};
 ghost use Rattle.evo_driver.specs.Top.{Replies};
 ghost use Rattle.evo_driver.specs.Answer.{words_answer, refused_answer, fault_text, unread_answer};
-ghost use Rattle.evo_driver.specs.declared.reply.Halt.TheVariants.{Memory, NotWritten};
+ghost use Rattle.evo_driver.specs.declared.reply.ReplyError.TheVariants.{Memory, NotWritten};
 
 use crate::status::Status;
 use crate::stop::Refusal;
@@ -22,24 +22,24 @@ pub struct Reply {
 
 /// Why a job gave no reply.
 #[derive(Clone, Copy, Debug, PartialEq, Eq)]
-pub enum Halt {
+pub enum ReplyError {
     NotWritten,
     Memory,
 }
 
-impl From<AllocError> for Halt {
+impl From<AllocError> for ReplyError {
     ghost from_gives = { λ _ e. e ≡ Memory };
 
     fn from(_: AllocError) -> Self {
-        Halt::Memory
+        ReplyError::Memory
     }
 }
 
-impl From<Failed> for Halt {
+impl From<Failed> for ReplyError {
     ghost from_gives = { λ _ e. e ≡ NotWritten };
 
     fn from(_: Failed) -> Self {
-        Halt::NotWritten
+        ReplyError::NotWritten
     }
 }
 

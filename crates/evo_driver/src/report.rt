@@ -2,10 +2,10 @@
 
 ghost use Rattle.std.specs.Prelude.{◌≡◌};
 ghost use Rattle.evo_first_form.specs.Rules.{removed_lines};
-ghost use Rattle.evo_driver.specs.Top.{GivesAs, WritesAll};
+ghost use Rattle.evo_driver.specs.Top.{GivesResult, WritesAll};
 ghost use Rattle.evo_driver.specs.Answer.{report_answer};
 
-use crate::reply::{Halt, Reply};
+use crate::reply::{Reply, ReplyError};
 use crate::status::Status;
 use evo_base::{Name, Sink};
 use evo_rules::report_line;
@@ -17,7 +17,7 @@ fn write_lines<O: Sink>(
     library: &Name,
     names: &[Name],
     out: &mut O,
-) -> Result<(), Halt>
+) -> Result<(), ReplyError>
     ensures { WritesAll (removed_lines library.now names.now)
         (O.written out.old) (O.written out.new) (O.faults out.old) (O.faults out.new) (O.takes out.old) (O.failed out.new) result }
 {
@@ -34,8 +34,8 @@ pub fn report<O: Sink>(
     library: &Name,
     names: &[Name],
     out: &mut O,
-) -> Result<Reply, Halt>
-    ensures { GivesAs (λ a. a ≡ report_answer (removed_lines library.now names.now))
+) -> Result<Reply, ReplyError>
+    ensures { GivesResult (λ a. a ≡ report_answer (removed_lines library.now names.now))
         (O.written out.old) (O.written out.new) (O.faults out.old) (O.faults out.new) (O.takes out.old) (O.failed out.new) result }
 {
     write_lines(alloc, library, names, out)?;

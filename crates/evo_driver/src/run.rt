@@ -2,11 +2,11 @@
 
 ghost use Rattle.std.specs.Prelude.{◌≡◌, IfOk, Some, Ok};
 ghost use Rattle.evo_driver.specs.Loading.{IsBuiltFrom, Builds, run_with};
-ghost use Rattle.evo_driver.specs.Top.{GivesAs, EndsAs, IsNoFault};
+ghost use Rattle.evo_driver.specs.Top.{GivesResult, EndsResult, IsNoFault};
 ghost use Rattle.evo_driver.specs.Answer.{AnswersRun};
 
 use crate::load::Loaded;
-use crate::reply::{Halt, Reply};
+use crate::reply::{Reply, ReplyError};
 use crate::status::Status;
 use evo_base::Sink;
 use evo_build::{LinkFault, build_client, build_library, link};
@@ -34,7 +34,7 @@ fn build(alloc: Global, loaded: &Loaded) -> Result<Image, AllocError>
 fn ended(alloc: Global, end: End, machine: Machine) -> Result<Reply, AllocError>
     requires finished { machine.finished ≡ Some (Ok end) }
     requires faultless { IsNoFault end }
-    ensures { IfOk result (EndsAs end) }
+    ensures { IfOk result (EndsResult end) }
 {
     let (text, status) = match end {
         End::Done => (Vec::new(alloc), Status::Done),
@@ -49,16 +49,21 @@ fn ended(alloc: Global, end: End, machine: Machine) -> Result<Reply, AllocError>
 }
 
 /// Builds, links and runs.
-pub fn run<O: Sink>(alloc: Global, loaded: &Loaded, ticks: u64, out: &mut O) -> Result<Reply, Halt>
+pub fn run<O: Sink>(
+    alloc: Global,
+    loaded: &Loaded,
+    ticks: u64,
+    out: &mut O,
+) -> Result<Reply, ReplyError>
     requires { Builds loaded.now }
-    ensures { GivesAs (AnswersRun (run_with loaded.now ticks))
+    ensures { GivesResult (AnswersRun (run_with loaded.now ticks))
         (O.written out.old) (O.written out.new) (O.faults out.old) (O.faults out.new) (O.takes out.old) (O.failed out.new) result }
 {
     let image = build(alloc, loaded)?;
     let mut machine = Machine::new(alloc, image)?;
     match machine.run(alloc, ticks, out) {
         Ok(end) => Ok(ended(alloc, end, machine)?),
-        Err(RunStop::Write) => Err(Halt::NotWritten),
-        Err(RunStop::Memory) => Err(Halt::Memory),
+        Err(RunStop::Write) => Err(ReplyError::NotWritten),
+        Err(RunStop::Memory) => Err(ReplyError::Memory),
     }
 }

@@ -1,5 +1,5 @@
 ghost use Rattle.std.specs.Prelude.{◌≡◌};
-ghost use Rattle.evo_driver.specs.declared.stop.Stop.TheVariants.{Memory};
+ghost use Rattle.evo_driver.specs.declared.stop.LoadError.TheVariants.{Memory};
 
 use evo_base::{List, Name};
 use evo_tree::SourceFault;
@@ -7,7 +7,7 @@ use std::alloc::AllocError;
 
 /// One of the files of a job.
 #[derive(Clone, Copy, Debug, PartialEq, Eq)]
-pub enum Which {
+pub enum Input {
     Old,
     New,
     Client,
@@ -26,18 +26,18 @@ pub enum Refusal {
 
 /// Why a job's files are not run.
 #[derive(Drop)]
-pub enum Stop {
-    NotRead(Which),
-    Refused(Which, Refusal),
+pub enum LoadError {
+    NotRead(Input),
+    Refused(Input, Refusal),
     /// Both libraries are accepted, and the new one lacks these functions.
     Broken(List<Name>),
     Memory,
 }
 
-impl From<AllocError> for Stop {
+impl From<AllocError> for LoadError {
     ghost from_gives = { λ _ e. e ≡ Memory };
 
     fn from(_: AllocError) -> Self {
-        Stop::Memory
+        LoadError::Memory
     }
 }

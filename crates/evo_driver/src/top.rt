@@ -6,7 +6,7 @@ ghost use Rattle.evo_driver.specs.Top.{OnAnswer, Means, Leaves, Fails};
 ghost use Rattle.evo_driver.specs.Answer.{Answer};
 
 use crate::job::perform;
-use crate::reply::Halt;
+use crate::reply::ReplyError;
 use crate::status::Status;
 use evo_base::{Files, Name, Sink};
 use evo_machine::Machine;
@@ -53,7 +53,7 @@ pub fn swevo<F: Files, O: Sink, E: Sink>(
             *bench = reply.bench;
             reply.status
         }
-        Err(Halt::NotWritten) => Status::NotWritten,
-        Err(Halt::Memory) => Status::Memory,
+        Err(ReplyError::NotWritten) => Status::NotWritten,
+        Err(ReplyError::Memory) => Status::Memory,
     }
 }

@@ -42,7 +42,7 @@ impl From<AllocError> for LibraryFault {
 }
 
 // The interface of a library: its text is written and read again.
-fn interface_text_of(
+fn reread_interface(
     alloc: Global,
     library: &Name,
     functions: &[Function],
@@ -95,7 +95,7 @@ pub fn accept_library(
         one_module();
         return Err(LibraryFault::NotBuilt);
     };
-    let Some(interface) = interface_text_of(alloc, library, functions.as_slice())? else {
+    let Some(interface) = reread_interface(alloc, library, functions.as_slice())? else {
         return Err(LibraryFault::InterfaceTooLong);
     };
     Ok(AcceptedLibrary {

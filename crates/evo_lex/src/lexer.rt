@@ -3,13 +3,13 @@
 ghost use Rattle.std.specs.Prelude.{◌≡◌, ◌<◌, ◌≤◌, ◌^◌, ◌-◌, ◌++◌, List, length, IfOk, IfErr, MatchBool};
 ghost use Rattle.std.specs.Str.{chars, IsUtf8};
 ghost use Rattle.evo_base.specs.declared.fault_kind.FaultKind.TheVariants.{BadToken};
-ghost use Rattle.evo_lex.specs.Cut as spec;
-ghost use Rattle.evo_lex.specs.Cut.{Cut, CutFrom, BadFrom, IsFault};
+ghost use Rattle.evo_lex.specs.Tokenization as spec;
+ghost use Rattle.evo_lex.specs.Tokenization.{Tokenization, CutFrom, BadFrom, IsFault};
 ghost use Rattle.evo_lex.specs.Fault.{OnBad};
 ghost use Rattle.evo_lex.specs.declared.lexer.LexFault.TheVariants.{Memory};
 
 use crate::front::{Front, read_front};
-use crate::spot::{Spot, beyond};
+use crate::spot::{Position, beyond};
 use evo_base::{FaultKind, Place, Token};
 use std::alloc::{AllocError, AllocFailed, Global};
 
@@ -67,7 +67,7 @@ fn characters(alloc: Global, text: &str) -> Result<Vec<char>, LexFault>
 }
 
 // Keeps the front between two spots where it is a token.
-fn keep(tokens: &mut Vec<Token>, front: Front, from: Spot, to: Spot) -> Result<(), LexFault>
+fn keep(tokens: &mut Vec<Token>, front: Front, from: Position, to: Position) -> Result<(), LexFault>
     requires { from.at ≤ to.at }
     ensures kept { IfOk result (λ _. tokens.new.items ≡ tokens.old.items ++ spec.tokens_of front from to) }
     ensures fault { IfErr result (λ e. e ≡ Memory) }
@@ -84,13 +84,13 @@ fn keep(tokens: &mut Vec<Token>, front: Front, from: Spot, to: Spot) -> Result<(
 }
 
 // The tokens that some characters are, and the spot behind them.
-fn cut(alloc: Global, text: &[char]) -> Result<(Vec<Token>, Spot), LexFault>
+fn cut(alloc: Global, text: &[char]) -> Result<(Vec<Token>, Position), LexFault>
     requires { (spec.beyond text.now spec.origin).at < 2 ^ 32 - 1 }
     ensures found { IfOk result (λ r. CutFrom spec.origin text.now r.0.items × (r.1 ≡ spec.beyond text.now spec.origin)) }
     ensures bad { IfErr result (λ e. OnBad e (λ kind place. (kind ≡ BadToken) × BadFrom spec.origin text.now place)) }
 {
     let mut tokens = Vec::new(alloc);
-    let mut spot = Spot::origin();
+    let mut spot = Position::origin();
     let mut read = 0;
     while read < text.len() {
         let Some((found, len)) = read_front(&text[read..]) else {
@@ -111,7 +111,7 @@ fn cut(alloc: Global, text: &[char]) -> Result<(Vec<Token>, Spot), LexFault>
 pub fn lex(alloc: Global, text: &[u8]) -> Result<Vec<Token>, LexFault>
     requires { length text.now < 2 ^ 32 - 1 }
     // The text is these tokens.
-    ensures found { IfOk result (λ v. Cut text.now v.items) }
+    ensures found { IfOk result (λ v. Tokenization text.now v.items) }
     // The text is no tokens, and this is its first fault.
     ensures bad { IfErr result (λ e. OnBad e (IsFault text.now)) }
 {
@@ -135,7 +135,7 @@ pub fn end_place(alloc: Global, text: &[u8]) -> Result<Place, AllocError>
 {
     let (front, _) = decoded(text);
     match characters(alloc, front) {
-        Ok(characters) => Ok(beyond(&characters, Spot::origin()).place),
+        Ok(characters) => Ok(beyond(&characters, Position::origin()).place),
         Err(_) => Err(AllocError),
     }
 }

@@ -2,30 +2,30 @@
 
 ghost use Rattle.std.specs.Prelude.{◌≡◌, ◌≤◌, ◌<◌, ◌+◌, ◌-◌, ◌^◌};
 ghost use Rattle.std.specs.Char.{len_utf8};
-ghost use Rattle.evo_lex.specs.Cut as spec;
+ghost use Rattle.evo_lex.specs.Tokenization as spec;
 
 use evo_base::Place;
 
 /// A place in a text, and the number of bytes before it.
 #[derive(Clone, Copy)]
-pub struct Spot {
+pub struct Position {
     pub place: Place,
     pub at: u32,
 }
 
-impl Spot {
+impl Position {
     /// Where a text begins.
-    pub fn origin() -> Spot
+    pub fn origin() -> Position
         ensures { result ≡ spec.origin }
     {
-        Spot {
+        Position {
             place: Place { line: 1, col: 1 },
             at: 0,
         }
     }
 }
 
-fn behind(c: char, spot: Spot) -> Spot
+fn behind(c: char, spot: Position) -> Position
     requires at { spot.at + len_utf8 c < 2 ^ 32 - 1 }
     requires line { spot.place.line ≤ spot.at + 1 }
     requires column { spot.place.col ≤ spot.at + 1 }
@@ -43,11 +43,11 @@ fn behind(c: char, spot: Spot) -> Spot
             col: spot.place.col + 1,
         }
     };
-    Spot { place, at }
+    Position { place, at }
 }
 
 /// The spot behind these characters.
-pub fn beyond(text: &[char], spot: Spot) -> Spot
+pub fn beyond(text: &[char], spot: Position) -> Position
     requires at { (spec.beyond text.now spot).at < 2 ^ 32 - 1 }
     requires line { spot.place.line ≤ spot.at + 1 }
     requires column { spot.place.col ≤ spot.at + 1 }

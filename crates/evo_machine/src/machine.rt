@@ -2,7 +2,7 @@
 ghost use Rattle.std.specs.Prelude.{◌≡◌, ◌⊎◌, length, true, None, Some, Err, IfOk, IfSome};
 ghost use Rattle.evo_machine.specs.declared.machine.RunStop.TheVariants.{Memory, Write};
 ghost use Rattle.evo_machine.specs.Machine.{Run, Executes, Reaches};
-ghost use Rattle.evo_machine.specs.Runs.{RunsAs, end_of};
+ghost use Rattle.evo_machine.specs.Runs.{RunsResult, end_of};
 ghost use Rattle.evo_machine.specs.Effects.{StartsAt};
 
 use crate::image::Image;
@@ -107,7 +107,7 @@ impl Machine {
     /// fails. A machine that has run answers the same again and writes nothing.
     pub fn run<S: Sink>(&mut self, alloc: Global, ticks: u64, out: &mut S) -> Result<End, RunStop>
         ensures runs { self.old.finished ≡ None → (run : Run) → Executes self.old.image ticks run →
-            RunsAs run (S.written out.old) (S.written out.new) (S.faults out.old) (S.faults out.new)
+            RunsResult run (S.written out.old) (S.written out.new) (S.faults out.old) (S.faults out.new)
             (S.takes out.old (length run.out)) result }
         ensures failed { self.old.finished ≡ None → result ≡ Err Write → S.failed out.new ≡ true }
         ensures unfailed { S.failed out.new ≡ true → (S.failed out.old ≡ true) ⊎ (result ≡ Err Write) }
@@ -155,7 +155,7 @@ fn run_from<S: Sink>(
     out: &mut S,
 ) -> Result<End, RunStop>
     ensures runs { (run : Run) → Reaches image.now state.old run →
-        RunsAs run (S.written out.old) (S.written out.new) (S.faults out.old) (S.faults out.new)
+        RunsResult run (S.written out.old) (S.written out.new) (S.faults out.old) (S.faults out.new)
         (S.takes out.old (length run.out)) result }
     ensures failed { result ≡ Err Write → S.failed out.new ≡ true }
     ensures unfailed { S.failed out.new ≡ true → (S.failed out.old ≡ true) ⊎ (result ≡ Err Write) }

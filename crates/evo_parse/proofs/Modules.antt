@@ -3,8 +3,8 @@ use Rattle.std.proofs.Common.{◌≡◌, ℕ, List, Option, Some, None, refl, sy
 use Rattle.evo_base.specs.declared.token.Token.{Token}
 use Rattle.evo_base.specs.declared.place.Place.{Place}
 use Rattle.evo_base.specs.declared.fault_kind.FaultKind.{FaultKind}
-use Rattle.evo_lex.specs.Cut as cut
-use Rattle.evo_lex.specs.Cut.{Cut}
+use Rattle.evo_lex.specs.Tokenization as cut
+use Rattle.evo_lex.specs.Tokenization.{Tokenization}
 use Rattle.evo_lex.proofs.Cuts as cuts
 use Rattle.evo_combinators.specs.Contract.{OneOutcome}
 use Rattle.evo_combinators.specs.Reader.{Reader}
@@ -25,11 +25,11 @@ use Rattle.evo_parse_decl.specs.Closed.{block_at, stmt_at}
 use Rattle.evo_parse_decl.specs.ReadModules.{parts}
 use Rattle.evo_parse_decl.proofs.ModuleParts.{End}
 use Rattle.evo_parse_decl.proofs.Whole.{module_grammar}
-use Rattle.evo_parse.specs.Contract.{Parts_in, IsRefusedIn, IsDeepIn}
+use Rattle.evo_parse.specs.Contract.{PartsIn, IsRefusedIn, IsDeepIn}
 use Rattle.evo_parse.specs.Text.{IsTextFault, lexical, refused, deep, OneModule, NoFault, OneFault}
 
-one : (f : Form) (ps : List Piece) → OneOutcome opens_nesting (Parts_in f) nesting ps
-one f ps = outcomes End opens_nesting (Parts_in f) (λ d. parts block_at stmt_at f d) (module_grammar f) nesting ps
+one : (f : Form) (ps : List Piece) → OneOutcome opens_nesting (PartsIn f) nesting ps
+one f ps = outcomes End opens_nesting (PartsIn f) (λ d. parts block_at stmt_at f d) (module_grammar f) nesting ps
 
 named_once : (text : List ℕ) (f : Form) (a b : List ℕ) (r s : Option Release) → IsNamed text f a r → IsNamed text f b s → (a ≡ b) × (r ≡ s)
 named_once text (form.Library n) a b r s x y = (x.0 ∙ sym y.0, x.1 ∙ sym y.1)
@@ -50,16 +50,16 @@ same_module m n a b c d e =
 pub one_module : OneModule
 one_module text f m n s r =
     let same : s.tokens ≡ r.tokens = cuts.one_cut text s.tokens r.tokens s.cut r.cut in
-    let parts : s.parts ≡ r.parts = (one f (pieces text r.tokens)).spelled s.parts r.parts (subst (λ us. Parts_in f nesting (pieces text us) s.parts) same s.spelled) r.spelled in
+    let parts : s.parts ≡ r.parts = (one f (pieces text r.tokens)).spelled s.parts r.parts (subst (λ us. PartsIn f nesting (pieces text us) s.parts) same s.spelled) r.spelled in
     let (names, releases) = named_once text f m.name n.name m.release n.release s.named r.named in
     same_module m n (s.form_is ∙ sym r.form_is) names releases (s.imports_are ∙ ap imports_of parts ∙ sym r.imports_are) (s.items_are ∙ ap items_of parts ∙ sym r.items_are)
 
 pub no_fault : NoFault
 no_fault text f m _ s (lexical bad) = cuts.fault_no_cut text _ _ s.tokens bad s.cut
 no_fault text f m _ s (refused {tokens = us} {end = end} cut bad) =
-    (one f (pieces text us)).spelled_or_refused s.parts end (subst (λ vs. Parts_in f nesting (pieces text vs) s.parts) (cuts.one_cut text s.tokens us s.cut cut) s.spelled) bad
+    (one f (pieces text us)).spelled_or_refused s.parts end (subst (λ vs. PartsIn f nesting (pieces text vs) s.parts) (cuts.one_cut text s.tokens us s.cut cut) s.spelled) bad
 no_fault text f m _ s (deep {tokens = us} {end = end} cut bad) =
-    (one f (pieces text us)).spelled_or_deep s.parts end (subst (λ vs. Parts_in f nesting (pieces text vs) s.parts) (cuts.one_cut text s.tokens us s.cut cut) s.spelled) bad
+    (one f (pieces text us)).spelled_or_deep s.parts end (subst (λ vs. PartsIn f nesting (pieces text vs) s.parts) (cuts.one_cut text s.tokens us s.cut cut) s.spelled) bad
 
 same_fault : (k k' : FaultKind) (p p' : Place) → k ≡ k' → p ≡ p' → ◌≡◌ {A = SourceFault} (record { kind = k; place = p }) (record { kind = k'; place = p' })
 same_fault k k' p p' a b = ap₂ (λ x y. record { kind = x; place = y }) a b

@@ -15,11 +15,11 @@ use Rattle.evo_tree.specs.Modules.{Parts, IsHeading, nesting}
 use Rattle.evo_parse_expr.specs.declared.parse.ParseFault.{ParseFault}
 use Rattle.evo_parse_expr.specs.declared.parse.ParseFault.TheVariants as fault
 use Rattle.evo_parse_expr.specs.Contract.{place_at}
-use Rattle.evo_parse_decl.specs.Closed.{Block_at, Stmt_at}
+use Rattle.evo_parse_decl.specs.Closed.{BlockAt, StmtAt}
 
 -- the parts of a module of a form, by how much nesting may open
-abbrev pub Parts_in : Form → ℕ → Rule (List ModulePart)
-Parts_in f d = Parts Block_at Stmt_at f d
+abbrev pub PartsIn : Form → ℕ → Rule (List ModulePart)
+PartsIn f d = Parts BlockAt StmtAt f d
 
 -- whether a text is read as a client's
 abbrev pub is_client : Form → Bool
@@ -29,11 +29,11 @@ is_client (form.Library name) = false
 
 -- spellings of a module go on with the tokens before this one and not with it, or it is the end and none ends there
 abbrev pub IsRefusedIn : Form → List Piece → ℕ → Type 0
-IsRefusedIn f ps end = contract.IsRefusedIn opens_nesting (Parts_in f) nesting ps end
+IsRefusedIn f ps end = contract.IsRefusedIn opens_nesting (PartsIn f) nesting ps end
 
 -- the token of this number is the first that opens one nesting too many
 abbrev pub IsDeepIn : Form → List Piece → ℕ → Type 0
-IsDeepIn f ps end = contract.IsDeepAt opens_nesting (Parts_in f) nesting ps 0 end
+IsDeepIn f ps end = contract.IsDeepAt opens_nesting (PartsIn f) nesting ps 0 end
 
 -- the fault of the tokens of a text
 abbrev pub IsFault : List ℕ → List Token → Form → ParseFault → Type 0

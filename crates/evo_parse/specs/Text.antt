@@ -4,8 +4,8 @@ use Rattle.evo_base.specs.declared.place.Place.{Place}
 use Rattle.evo_base.specs.declared.fault_kind.FaultKind.{FaultKind}
 use Rattle.evo_base.specs.declared.fault_kind.FaultKind.TheVariants as kind
 use Rattle.evo_base.specs.declared.token.Token.{Token}
-use Rattle.evo_lex.specs.Cut as cut
-use Rattle.evo_lex.specs.Cut.{Cut}
+use Rattle.evo_lex.specs.Tokenization as cut
+use Rattle.evo_lex.specs.Tokenization.{Tokenization}
 use Rattle.evo_tree.specs.declared.module.Form.{Form}
 use Rattle.evo_tree.specs.declared.module.ModuleTree.{ModuleTree}
 use Rattle.evo_tree.specs.declared.module.SourceFault.{SourceFault}
@@ -19,8 +19,8 @@ use Rattle.evo_parse.specs.declared.text.TextFault.TheVariants as fault
 -- The text is no tokens, or its tokens spell no module of the form: this is its first fault.
 pub data IsTextFault : List ℕ → Form → SourceFault → Type 0 where
   lexical : {text : List ℕ} {f : Form} {k : FaultKind} {place : Place} → cut.IsFault text k place → IsTextFault text f (record { kind = k; place = place })
-  refused : {text : List ℕ} {f : Form} {tokens : List Token} {end : ℕ} → Cut text tokens → IsRefusedIn f (pieces text tokens) end → IsTextFault text f (record { kind = kind.Grammar; place = place_at text tokens end })
-  deep : {text : List ℕ} {f : Form} {tokens : List Token} {end : ℕ} → Cut text tokens → IsDeepIn f (pieces text tokens) end → IsTextFault text f (record { kind = kind.Deep; place = place_at text tokens end })
+  refused : {text : List ℕ} {f : Form} {tokens : List Token} {end : ℕ} → Tokenization text tokens → IsRefusedIn f (pieces text tokens) end → IsTextFault text f (record { kind = kind.Grammar; place = place_at text tokens end })
+  deep : {text : List ℕ} {f : Form} {tokens : List Token} {end : ℕ} → Tokenization text tokens → IsDeepIn f (pieces text tokens) end → IsTextFault text f (record { kind = kind.Deep; place = place_at text tokens end })
 
 -- why a text is no module
 abbrev pub IsUnread : List ℕ → Form → TextFault → Type 0

@@ -1,7 +1,7 @@
 //! The parser of modules.
 
 ghost use Rattle.std.specs.Prelude.{◌≡◌, ◌<◌, ◌-◌, ◌^◌, length, IfOk, IfErr};
-ghost use Rattle.evo_lex.specs.Cut.{Cut};
+ghost use Rattle.evo_lex.specs.Tokenization.{Tokenization};
 ghost use Rattle.evo_tree.specs.Modules.{Spells, IsNamed};
 ghost use Rattle.evo_parse.specs.Contract.{IsFault, IsHeaded};
 
@@ -36,7 +36,7 @@ fn named(alloc: Global, text: &[u8], form: &Form) -> Result<(Name, Option<Releas
 /// lines, which are comments to the grammar.
 pub fn parse(alloc: Global, text: &[u8], tokens: &[Token], form: Form) -> Result<Module, ParseFault>
     requires length { length text.now < 2 ^ 32 - 1 }
-    requires cut { Cut text.now tokens.now }
+    requires cut { Tokenization text.now tokens.now }
     requires headed { IsHeaded text.now form }
     ensures spelled { IfOk result (Spells text.now form) }
     ensures fault { IfErr result (IsFault text.now tokens.now form) }

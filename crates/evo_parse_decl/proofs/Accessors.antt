@@ -5,13 +5,13 @@ use Rattle.std.specs.Str.{bytes_eq, is_utf8}
 use Rattle.evo_base.specs.declared.place.Place.{Place}
 use Rattle.evo_combinators.specs.declared.Fault.{Fault}
 use Rattle.evo_combinators.specs.declared.Fault.TheVariants.{Grammar, Deep}
-use Rattle.evo_combinators.specs.Rule.{Only, Nothing, Led, Or, Then, Some_of, Goes}
+use Rattle.evo_combinators.specs.Rule.{Empty, Fail, TokenThen, Or, Then, SomeOf, IsViablePrefix}
 use Rattle.evo_combinators.specs.Reader.{Outcome, ◌>>=◌, and_then, pure, refuse, alt, one, bar, barred, lead, paired, branch}
 use Rattle.evo_combinators.specs.Guard.{choose, starts, on}
-use Rattle.evo_combinators.specs.Laws.{Begins, Deeper, Like, Right, Takes, first, of_first}
+use Rattle.evo_combinators.specs.Laws.{Begins, GrowsWithNesting, SameLookahead, ReadsRule, Takes, first, of_first}
 use Rattle.evo_combinators.proofs.Laws.{right_alt_by, right_nothing, right_map, right_same, right_stop, right_ext, split_err, of_map, to_map}
 use Rattle.evo_combinators.proofs.Entered.{refused_within}
-use Rattle.evo_combinators.proofs.Deeper.{deeper_then, deeper_alt, deeper_bar, same_refl}
+use Rattle.evo_combinators.proofs.GrowsWithNesting.{deeper_then, deeper_alt, deeper_bar, same_refl}
 use Rattle.evo_combinators.proofs.GuardDeeper.{deeper_choose}
 use Rattle.evo_combinators.proofs.GuardLaws.{right_on, starts_is}
 use Rattle.evo_tree.specs.declared.statement.Block.{Block}
@@ -28,9 +28,9 @@ use Rattle.evo_parse_expr.specs.Read.{Reader}
 use Rattle.evo_combinators.specs.Nesting.{left_of, DeepOpens}
 use Rattle.evo_combinators.proofs.Nesting.{nest_refuse, nest_bar, nest_choose, deep_refuse, deep_alt, deep_choose}
 use Rattle.evo_combinators.proofs.NestingTries.{nest_made}
-use Rattle.evo_parse_expr.proofs.Nesting.{May, Nests}
+use Rattle.evo_parse_expr.proofs.Nesting.{May, ReadsInner}
 use Rattle.evo_combinators.proofs.NestingRuns.{nest_ext}
-use Rattle.evo_parse_header.proofs.Sets.{Set, these, but, In, into, none_holds, Ends, Ends_or_brace}
+use Rattle.evo_parse_header.proofs.Sets.{Set, these, but, In, into, none_holds, Ends, EndsOrBrace}
 use Rattle.evo_parse_header.proofs.Parses.{Chooses, Parses, parses_pure, parses_then, parses_map, parses_led, parses_opens, quiet, opening, parses_alt, chooses_nothing, parses_before}
 use Rattle.evo_parse_header.proofs.Tests.{a_piece, mark_test, word_test, is_number, mark_is, is_marked, when_some}
 use Rattle.evo_lex.specs.Front.{when}
@@ -48,9 +48,9 @@ is_close u = is_terminal t.CloseBrace u
 
 -- What a reader of blocks keeps.
 pub record Blocks (B : ℕ → Bool → Rule Block) (b : ℕ → Bool → Reader Block) : Type 0 where
-  pub right : (d : ℕ) (i : Bool) (n : ℕ) → Right n (In (but [])) (B d i) (B (suc d) i) (b d i)
-  pub deeper : (d : ℕ) (i : Bool) → Deeper (b d i) (b (suc d) i)
-  pub nest : (d : ℕ) (i : Bool) (n : ℕ) → Nests d n (B d i) (b d i)
+  pub right : (d : ℕ) (i : Bool) (n : ℕ) → ReadsRule n (In (but [])) (B d i) (B (suc d) i) (b d i)
+  pub deeper : (d : ℕ) (i : Bool) → GrowsWithNesting (b d i) (b (suc d) i)
+  pub nest : (d : ℕ) (i : Bool) (n : ℕ) → ReadsInner d n (B d i) (b d i)
   -- without nesting a brace is one too many
   pub shallow : (i : Bool) (ts : List Piece) → b 0 i ts ≡ bar (mark t.OpenBrace) refuse ts
   -- a block stands between braces
@@ -59,7 +59,7 @@ pub record Blocks (B : ℕ → Bool → Rule Block) (b : ℕ → Bool → Reader
   -- braces alone are a block
   pub empty : (d : ℕ) (i : Bool) (u v : Piece) → is_terminal t.OpenBrace u ≡ true → is_terminal t.CloseBrace v ≡ true → (x : Block) × B (suc d) i (u ∷ v ∷ []) x
   -- and a block may begin with the name `get`
-  pub begun : (d : ℕ) (u v : Piece) → is_terminal t.OpenBrace u ≡ true → is_get v ≡ true → Goes (B (suc d) false) (u ∷ v ∷ [])
+  pub begun : (d : ℕ) (u v : Piece) → is_terminal t.OpenBrace u ≡ true → is_get v ≡ true → IsViablePrefix (B (suc d) false) (u ∷ v ∷ [])
 
 -- ---- the look at three tokens
 
@@ -133,14 +133,14 @@ module _ (B : ℕ → Bool → Rule Block) (b : ℕ → Bool → Reader Block) (
   B_false d = B d false
 
   abbrev Plain : ℕ → Rule Accessors
-  Plain d = Then (B d false) (λ x. Only (accessors.Block x))
+  Plain d = Then (B d false) (λ x. Empty (accessors.Block x))
 
   abbrev Listed : ℕ → Rule Accessors
-  Listed d = Or (Nested d (mark t.OpenBrace) (λ _. grammar.Rest_of_blocks B d)) Nothing
+  Listed d = Or (Nested d (mark t.OpenBrace) (λ _. grammar.BlocksTail B d)) Fail
 
   -- ---- blocks within braces
 
-  some_block : (d : ℕ) (i : Bool) → Some_of (B (suc d) i)
+  some_block : (d : ℕ) (i : Bool) → SomeOf (B (suc d) i)
   unfolding a_piece
   some_block d i = let (x, s) = blocks.empty d i (a_piece t.OpenBrace []) (a_piece t.CloseBrace []) refl refl in (_, x, s)
 
@@ -161,11 +161,11 @@ module _ (B : ℕ → Bool → Rule Block) (b : ℕ → Bool → Reader Block) (
   parses_setter = parses_alt refl refl refl refl (word_test (codes "set")) (λ _. parses_before refl refl (parses_map (λ x. Some x) (parses_block false))) (parses_pure refl None).chooses
 
   parses_blocks_of : Parses (these (68 ∷ [])) Anything
-      (λ d. Then (B d false) (λ g. Then (grammar.Setter B (suc d)) (λ x. Led (mark t.CloseBrace) (λ _. Only (accessors.Blocks g x)))))
+      (λ d. Then (B d false) (λ g. Then (grammar.Setter B (suc d)) (λ x. TokenThen (mark t.CloseBrace) (λ _. Empty (accessors.Blocks g x)))))
       (λ d. b d false >>= (λ g. read.setter b (suc d) >>= (λ x. one (mark t.CloseBrace) >>= (λ _. pure (accessors.Blocks g x)))))
   parses_blocks_of = parses_then refl (parses_block false) (λ g. parses_then refl parses_setter (λ x. parses_led {F = these (69 ∷ [])} refl refl refl (mark_test t.CloseBrace) (λ _. parses_pure refl (accessors.Blocks g x))))
 
-  parses_rest : Parses (these (0 ∷ [])) Anything (λ d. grammar.Rest_of_blocks B (suc d)) (λ d. read.rest_of_blocks b (suc d))
+  parses_rest : Parses (these (0 ∷ [])) Anything (λ d. grammar.BlocksTail B (suc d)) (λ d. read.rest_of_blocks b (suc d))
   unfolding read.rest_of_blocks
   parses_rest = parses_led refl refl refl (word_test (codes "get")) (λ _. parses_blocks_of)
 
@@ -176,7 +176,7 @@ module _ (B : ℕ → Bool → Rule Block) (b : ℕ → Bool → Reader Block) (
   listed_goes d u v is is' =
       let (g, s) = blocks.empty d false (a_piece t.OpenBrace []) (a_piece t.CloseBrace []) refl refl in
       let close = a_piece t.CloseBrace [] in
-      let end : Led (mark t.CloseBrace) (λ _. Only (accessors.Blocks g None)) (close ∷ []) (accessors.Blocks g None) = (close, close.place, [], refl, refl, (refl, refl)) in (
+      let end : TokenThen (mark t.CloseBrace) (λ _. Empty (accessors.Blocks g None)) (close ∷ []) (accessors.Blocks g None) = (close, close.place, [], refl, refl, (refl, refl)) in (
         a_piece t.OpenBrace [] ∷ close ∷ close ∷ [],
         accessors.Blocks g None,
         inl (u, u.place, _, refl, is_marked t.OpenBrace u is, (v, v.place, _, refl, get_word v is', (g, a_piece t.OpenBrace [] ∷ close ∷ [], close ∷ [], refl, s, (None, [], close ∷ [], refl, inr (refl, refl), end)))),
@@ -206,13 +206,13 @@ module _ (B : ℕ → Bool → Rule Block) (b : ℕ → Bool → Reader Block) (
       go u (w ∷ []) v is isnt = isnt
       go u (w ∷ w' ∷ vs) v is isnt = isnt
 
-  plain_goes : (d : ℕ) (us rest : List Piece) → begins_accessors (us ++ rest) ≡ false → Goes (Plain (suc (suc d))) us → Goes (Or (Listed (suc (suc d))) (Unless begins_accessors (Plain (suc (suc d))))) us
+  plain_goes : (d : ℕ) (us rest : List Piece) → begins_accessors (us ++ rest) ≡ false → IsViablePrefix (Plain (suc (suc d))) us → IsViablePrefix (Or (Listed (suc (suc d))) (Unless begins_accessors (Plain (suc (suc d))))) us
   plain_goes d us rest isnt (w, x, s) = elim (which (begins_accessors (us ++ w))) [
     | inr isnt' ↦ (w, x, inr (isnt', s))
     | inl is ↦ go us rest w isnt is
   ]
     where
-      go : (us rest w : List Piece) → begins_accessors (us ++ rest) ≡ false → begins_accessors (us ++ w) ≡ true → Goes (Or (Listed (suc (suc d))) (Unless begins_accessors (Plain (suc (suc d))))) us
+      go : (us rest w : List Piece) → begins_accessors (us ++ rest) ≡ false → begins_accessors (us ++ w) ≡ true → IsViablePrefix (Or (Listed (suc (suc d))) (Unless begins_accessors (Plain (suc (suc d))))) us
       go [] rest [] isnt is = absurd (cc)
       go [] rest (u ∷ []) isnt is = absurd (cc)
       go [] rest (u ∷ v ∷ w) isnt is = let (k, y, l) = listed_goes d u v (open_of u (v ∷ w) is) (get_of u v w is) in (u ∷ v ∷ k, y, inl l)
@@ -230,12 +230,12 @@ module _ (B : ℕ → Bool → Rule Block) (b : ℕ → Bool → Reader Block) (
     abbrev plain : Reader Accessors
     plain = read.getter b (suc d)
 
-    right_listed : (n : ℕ) → Right n (In Anything) (Listed (suc d)) (Listed (suc (suc d))) listed
+    right_listed : (n : ℕ) → ReadsRule n (In Anything) (Listed (suc d)) (Listed (suc (suc d))) listed
     unfolding read.blocks
-    right_listed n = right_alt_by n (In Anything) (mark t.OpenBrace) (λ _. grammar.Rest_of_blocks B (suc d)) (λ _. grammar.Rest_of_blocks B (suc (suc d))) Nothing Nothing (λ _. read.rest_of_blocks b (suc d)) refuse
+    right_listed n = right_alt_by n (In Anything) (mark t.OpenBrace) (λ _. grammar.BlocksTail B (suc d)) (λ _. grammar.BlocksTail B (suc (suc d))) Fail Fail (λ _. read.rest_of_blocks b (suc d)) refuse
         (λ _. parses_rest.chooses.right d (n - 1)) (right_nothing n (In Anything) refl) (λ _. parses_rest.some d) (λ us rest x none stop. absurd none)
 
-    right_plain : (n : ℕ) → Right n (In Anything) (Plain (suc d)) (Plain (suc (suc d))) plain
+    right_plain : (n : ℕ) → ReadsRule n (In Anything) (Plain (suc d)) (Plain (suc (suc d))) plain
     unfolding read.getter
     right_plain n = right_map n (In Anything) (B (suc d) false) (B (suc (suc d)) false) (b (suc d) false) (λ x. accessors.Block x) (blocks.right (suc d) false n)
 
@@ -253,7 +253,7 @@ module _ (B : ℕ → Bool → Rule Block) (b : ℕ → Bool → Reader Block) (
     abbrev goes_on : Piece → Type 0
     goes_on u = is_open u ≡ true
 
-    block_goes : (u : Piece) → is_open u ≡ true → Goes (B (suc d) false) (u ∷ [])
+    block_goes : (u : Piece) → is_open u ≡ true → IsViablePrefix (B (suc d) false) (u ∷ [])
     unfolding a_piece
     block_goes u is = let (x, s) = blocks.empty d false u (a_piece t.CloseBrace []) is refl in (a_piece t.CloseBrace [] ∷ [], x, s)
 
@@ -293,7 +293,7 @@ module _ (B : ℕ → Bool → Rule Block) (b : ℕ → Bool → Reader Block) (
 
     no_first : (u : Piece) (ts : List Piece) → is_open u ≡ true → listed (u ∷ ts) ≡ Err (Grammar (suc (length ts))) → ⊥
     no_first u ts is bad =
-        let short = refused_within (In Anything) (grammar.Rest_of_blocks B (suc d)) (grammar.Rest_of_blocks B (suc (suc d))) (read.rest_of_blocks b (suc d)) (λ n. parses_rest.chooses.right d n) ts (suc (length ts)) (sym (listed_behind u ts is) ∙ bad) in
+        let short = refused_within (In Anything) (grammar.BlocksTail B (suc d)) (grammar.BlocksTail B (suc (suc d))) (read.rest_of_blocks b (suc d)) (λ n. parses_rest.chooses.right d n) ts (suc (length ts)) (sym (listed_behind u ts is) ∙ bad) in
         omega (arith, short)
 
     no_second : (u v : Piece) (ts : List Piece) → is_open u ≡ true → is_get v ≡ true → listed (u ∷ v ∷ ts) ≡ Err (Grammar (suc (length ts))) → ⊥
@@ -303,7 +303,7 @@ module _ (B : ℕ → Bool → Rule Block) (b : ℕ → Bool → Reader Block) (
 
     no_first_deep : (u : Piece) (ts : List Piece) → is_open u ≡ true → listed (u ∷ ts) ≡ Err (Deep (suc (length ts))) → ⊥
     no_first_deep u ts is bad =
-        let short = deep_within (In Anything) (grammar.Rest_of_blocks B (suc d)) (grammar.Rest_of_blocks B (suc (suc d))) (read.rest_of_blocks b (suc d)) (λ n. parses_rest.chooses.right d n) ts (suc (length ts)) (sym (listed_behind u ts is) ∙ bad) in
+        let short = deep_within (In Anything) (grammar.BlocksTail B (suc d)) (grammar.BlocksTail B (suc (suc d))) (read.rest_of_blocks b (suc d)) (λ n. parses_rest.chooses.right d n) ts (suc (length ts)) (sym (listed_behind u ts is) ∙ bad) in
         omega (arith, short)
 
     no_second_deep : (u v : Piece) (ts : List Piece) → is_open u ≡ true → is_get v ≡ true → listed (u ∷ v ∷ ts) ≡ Err (Deep (suc (length ts))) → ⊥
@@ -323,17 +323,17 @@ module _ (B : ℕ → Bool → Rule Block) (b : ℕ → Bool → Reader Block) (
     plain_second_deep : (u v : Piece) (ts : List Piece) → is_open u ≡ true → is_get v ≡ true → plain (u ∷ v ∷ ts) ≡ Err (Deep (suc (length ts))) → ⊥
     plain_second_deep u v ts is is' bad = goes_under (In Anything) (B (suc d) false) (B (suc (suc d)) false) (b (suc d) false) (blocks.right (suc d) false) (u ∷ []) ts v (blocks.begun d u v is is') (plain_err (u ∷ v ∷ ts) (Deep (suc (length ts))) bad)
 
-    like_nil : (more : List Piece) → Like [] more → more ≡ []
+    like_nil : (more : List Piece) → SameLookahead [] more → more ≡ []
     like_nil more (inl e) = e
     like_nil [] (inr e) = refl
     like_nil (m ∷ more) (inr e) = absurd (cc)
 
-    like_cons : (u : Piece) (us more : List Piece) → Like (u ∷ us) more → (more ≡ []) ⊎ ((ws : List Piece) × (more ≡ u ∷ ws))
+    like_cons : (u : Piece) (us more : List Piece) → SameLookahead (u ∷ us) more → (more ≡ []) ⊎ ((ws : List Piece) × (more ≡ u ∷ ws))
     like_cons u us more (inl e) = inl e
     like_cons u us [] (inr e) = absurd (cc)
     like_cons u us (m ∷ more) (inr e) = let same : m ≡ u = cc in inr (more, ap (λ x. x ∷ more) same)
 
-    stay_listed : (us rest more : List Piece) → listed (us ++ rest) ≡ Err (Grammar (length rest)) → begins_accessors (us ++ rest) ≡ true → Like rest more →
+    stay_listed : (us rest more : List Piece) → listed (us ++ rest) ≡ Err (Grammar (length rest)) → begins_accessors (us ++ rest) ≡ true → SameLookahead rest more →
         (begins_accessors (us ++ more) ≡ true) ⊎ ((begins_accessors (us ++ more) ≡ false) × (plain (us ++ more) ≡ Err (Grammar (length more))))
     stay_listed [] [] more bad is like = absurd (cc)
     stay_listed [] (u ∷ rest) more bad is like = absurd (no_first u rest (open_of u rest is) bad)
@@ -346,7 +346,7 @@ module _ (B : ℕ → Bool → Rule Block) (b : ℕ → Bool → Reader Block) (
     ]
     stay_listed (u ∷ v ∷ w ∷ us) rest more bad is like = inl is
 
-    stay_plain : (us rest more : List Piece) → plain (us ++ rest) ≡ Err (Grammar (length rest)) → begins_accessors (us ++ rest) ≡ false → Like rest more → begins_accessors (us ++ more) ≡ false
+    stay_plain : (us rest more : List Piece) → plain (us ++ rest) ≡ Err (Grammar (length rest)) → begins_accessors (us ++ rest) ≡ false → SameLookahead rest more → begins_accessors (us ++ more) ≡ false
     stay_plain [] [] more bad isnt like = ap begins_accessors (like_nil more like)
     stay_plain [] (u ∷ rest) more bad isnt like = elim (which (is_open u)) [
       | inl is ↦ absurd (plain_first u rest is bad)
@@ -379,7 +379,7 @@ module _ (B : ℕ → Bool → Rule Block) (b : ℕ → Bool → Reader Block) (
     deep_plain (u ∷ v ∷ []) rest more w bad isnt = isnt
     deep_plain (u ∷ v ∷ x ∷ us) rest more w bad isnt = isnt
 
-    right_some : (n : ℕ) → Right n (In Anything) (Or (Listed (suc d)) (Unless begins_accessors (Plain (suc d)))) (Or (Listed (suc (suc d))) (Unless begins_accessors (Plain (suc (suc d))))) (choose begins_accessors listed plain)
+    right_some : (n : ℕ) → ReadsRule n (In Anything) (Or (Listed (suc d)) (Unless begins_accessors (Plain (suc d)))) (Or (Listed (suc (suc d))) (Unless begins_accessors (Plain (suc (suc d))))) (choose begins_accessors listed plain)
     right_some n = right_unless n (In Anything) begins_accessors (Listed (suc d)) (Listed (suc (suc d))) (Plain (suc d)) (Plain (suc (suc d))) listed plain (right_listed n) (right_plain n)
         grows (listed_begins d) (λ us more x s isnt. plain_kept (suc d) us more x s isnt) (plain_goes d)
         (λ us rest more fits bad is like. stay_listed us rest more bad is like) stay_plain deep_listed deep_plain
@@ -419,7 +419,7 @@ module _ (B : ℕ → Bool → Rule Block) (b : ℕ → Bool → Reader Block) (
   none_braced us x (inl (inr none)) = none
   none_braced us x (inr (isnt, s)) = let (y, s', e) = of_map (B 0 false) (λ y. accessors.Block y) us x s in no_block y us s'
 
-  braced_goes : (d : ℕ) (u : Piece) → is_open u ≡ true → Goes (Braced (suc d)) (u ∷ [])
+  braced_goes : (d : ℕ) (u : Piece) → is_open u ≡ true → IsViablePrefix (Braced (suc d)) (u ∷ [])
   unfolding a_piece
   braced_goes d u is =
       let close = a_piece t.CloseBrace [] in
@@ -441,7 +441,7 @@ module _ (B : ℕ → Bool → Rule Block) (b : ℕ → Bool → Reader Block) (
   unfolding lead
   nil_refused = refl
 
-  module _ (W : Rule Accessors) (goes : (u : Piece) → is_open u ≡ true → Goes W (u ∷ [])) where
+  module _ (W : Rule Accessors) (goes : (u : Piece) → is_open u ≡ true → IsViablePrefix W (u ∷ [])) where
     barred_none : (ts rest : List Piece) (x : Accessors) → barred_open ts ≡ Ok (x, rest) → ⊥
     barred_none [] rest x e = let both = sym nil_refused ∙ e in cc
     barred_none (u ∷ us) rest x e = elim (which (is_open u)) [
@@ -450,10 +450,10 @@ module _ (B : ℕ → Bool → Rule Block) (b : ℕ → Bool → Reader Block) (
     ]
 
     barred_refuses : (n : ℕ) (ts : List Piece) (k : ℕ) → length ts ≤ n → barred_open ts ≡ Err (Grammar k) →
-        (us : List Piece) × (rest : List Piece) × (ts ≡ us ++ rest) × ((us ≡ []) ⊎ Goes W us) × ((more : List Piece) → length (us ++ more) ≤ n → Like rest more → barred_open (us ++ more) ≡ Err (Grammar (length more)))
+        (us : List Piece) × (rest : List Piece) × (ts ≡ us ++ rest) × ((us ≡ []) ⊎ IsViablePrefix W us) × ((more : List Piece) → length (us ++ more) ≤ n → SameLookahead rest more → barred_open (us ++ more) ≡ Err (Grammar (length more)))
     barred_refuses n [] k fits e = ([], [], refl, inl refl, λ more all like. nil_like more like)
       where
-        nil_like : (more : List Piece) → Like [] more → barred_open more ≡ Err (Grammar (length more))
+        nil_like : (more : List Piece) → SameLookahead [] more → barred_open more ≡ Err (Grammar (length more))
         nil_like [] like = nil_refused
         nil_like (m ∷ more) (inl e) = absurd (cc)
         nil_like (m ∷ more) (inr e) = absurd (cc)
@@ -462,20 +462,20 @@ module _ (B : ℕ → Bool → Rule Block) (b : ℕ → Bool → Reader Block) (
       | inr isnt ↦ ([], u ∷ us, refl, inl refl, λ more all like. same_like isnt more like)
     ]
       where
-        same_like : is_open u ≡ false → (more : List Piece) → Like (u ∷ us) more → barred_open more ≡ Err (Grammar (length more))
+        same_like : is_open u ≡ false → (more : List Piece) → SameLookahead (u ∷ us) more → barred_open more ≡ Err (Grammar (length more))
         same_like isnt [] like = nil_refused
         same_like isnt (m ∷ more) (inl e) = absurd (cc)
         same_like isnt (m ∷ more) (inr e) = let same : u ≡ m = cc in else_refused m more (subst (λ x. is_open x ≡ false) same isnt)
 
     barred_deepens : (n : ℕ) (ts : List Piece) (k : ℕ) → length ts ≤ n → barred_open ts ≡ Err (Deep k) →
-        (us : List Piece) × (w : Piece) × (rest : List Piece) × (ts ≡ us ++ w ∷ rest) × ((us ≡ []) ⊎ Goes W us) × Goes W (us ++ w ∷ []) × ((more : List Piece) → length (us ++ w ∷ more) ≤ n → barred_open (us ++ w ∷ more) ≡ Err (Deep (suc (length more))))
+        (us : List Piece) × (w : Piece) × (rest : List Piece) × (ts ≡ us ++ w ∷ rest) × ((us ≡ []) ⊎ IsViablePrefix W us) × IsViablePrefix W (us ++ w ∷ []) × ((more : List Piece) → length (us ++ w ∷ more) ≤ n → barred_open (us ++ w ∷ more) ≡ Err (Deep (suc (length more))))
     barred_deepens n [] k fits e = absurd (let both = sym nil_refused ∙ e in cc)
     barred_deepens n (u ∷ us) k fits e = elim (which (is_open u)) [
       | inl is ↦ ([], u, us, refl, inl refl, goes u is, λ more all. open_barred u more is)
       | inr isnt ↦ absurd (let both = sym (else_refused u us isnt) ∙ e in cc)
     ]
 
-    right_barred : (n : ℕ) → Right n (In Anything) Nothing W barred_open
+    right_barred : (n : ℕ) → ReadsRule n (In Anything) Fail W barred_open
     right_barred n = record {
       wider = λ us x none. absurd none;
       ended = refl;
@@ -487,18 +487,18 @@ module _ (B : ℕ → Bool → Rule Block) (b : ℕ → Bool → Reader Block) (
 
   -- ---- accessors with bodies
 
-  right_braced : (d n : ℕ) → Right n (In Anything) (Braced d) (Braced (suc d)) (read.braces b d true)
+  right_braced : (d n : ℕ) → ReadsRule n (In Anything) (Braced d) (Braced (suc d)) (read.braces b d true)
   unfolding read.braces
   right_braced zero n = right_ext n (In Anything) (Braced 0) (Braced 1) (bar (mark t.OpenBrace) refuse) (read.braces b 0 true) (λ ts fits. shallow_same ts)
-      (right_same n (In Anything) Nothing (Braced 1) (Braced 0) (Braced 1) (bar (mark t.OpenBrace) refuse) (λ us x none. absurd none) (λ us x s. none_braced us x s) (λ us x s. s) (right_barred (Braced 1) (braced_goes 0) n))
+      (right_same n (In Anything) Fail (Braced 1) (Braced 0) (Braced 1) (bar (mark t.OpenBrace) refuse) (λ us x none. absurd none) (λ us x s. none_braced us x s) (λ us x s. s) (right_barred (Braced 1) (braced_goes 0) n))
   right_braced (suc d) n = right_some d n
 
-  deeper_listed : (d : ℕ) → Deeper (read.blocks b d) (read.blocks b (suc d))
+  deeper_listed : (d : ℕ) → GrowsWithNesting (read.blocks b d) (read.blocks b (suc d))
   unfolding read.blocks
   deeper_listed zero = deeper_bar (mark t.OpenBrace) (λ _. read.rest_of_blocks b 1) (λ _. read.rest_of_blocks b 1) refuse refuse (λ _. same_refl (read.rest_of_blocks b 1)) (same_refl refuse)
   deeper_listed (suc d) = deeper_alt (mark t.OpenBrace) (λ _. read.rest_of_blocks b (suc d)) (λ _. read.rest_of_blocks b (suc (suc d))) refuse refuse (λ _. parses_rest.chooses.deeper d) (same_refl refuse)
 
-  deeper_braced : (d : ℕ) → Deeper (read.braces b d true) (read.braces b (suc d) true)
+  deeper_braced : (d : ℕ) → GrowsWithNesting (read.braces b d true) (read.braces b (suc d) true)
   unfolding read.braces read.getter
   deeper_braced d = deeper_choose begins_accessors (read.blocks b d) (read.blocks b (suc d)) _ _ (deeper_listed d) (deeper_then (b d false) (b (suc d) false) _ _ (blocks.deeper d false) (λ x. same_refl (pure (accessors.Block x))))
 
@@ -516,7 +516,7 @@ module _ (B : ℕ → Bool → Rule Block) (b : ℕ → Bool → Reader Block) (
   module _ (d : ℕ) where
     -- with the brace of a list a block goes on, and with what opens behind it a list
     listed_keeps : (n : ℕ) (us : List Piece) (w : Piece) (more : List Piece) → length (us ++ w ∷ more) ≤ n → opens_nesting w ≡ true →
-        begins_accessors (us ++ w ∷ more) ≡ true → left_of (listed d (us ++ w ∷ more)) ≤ length more → Goes (Braced (suc d)) (us ++ w ∷ [])
+        begins_accessors (us ++ w ∷ more) ≡ true → left_of (listed d (us ++ w ∷ more)) ≤ length more → IsViablePrefix (Braced (suc d)) (us ++ w ∷ [])
     listed_keeps n [] w more fits opens is le = braced_goes d w (open_of w more is)
     listed_keeps n (u ∷ us) w more fits opens is le =
         let brace = open_of u (us ++ w ∷ more) is in
@@ -524,7 +524,7 @@ module _ (B : ℕ → Bool → Rule Block) (b : ℕ → Bool → Reader Block) (
         (ws, x, inl (inl (u, u.place, (us ++ w ∷ []) ++ ws, refl, is_marked t.OpenBrace u brace, s)))
 
     -- a block that goes on with what opens a nesting may begin no list
-    plain_keeps : (us : List Piece) (w : Piece) (more : List Piece) → opens_nesting w ≡ true → begins_accessors (us ++ w ∷ more) ≡ false → Goes (Plain (suc d)) (us ++ w ∷ []) → Goes (Braced (suc d)) (us ++ w ∷ [])
+    plain_keeps : (us : List Piece) (w : Piece) (more : List Piece) → opens_nesting w ≡ true → begins_accessors (us ++ w ∷ more) ≡ false → IsViablePrefix (Plain (suc d)) (us ++ w ∷ []) → IsViablePrefix (Braced (suc d)) (us ++ w ∷ [])
     plain_keeps [] w more opens isnt (ws, x, s) = elim (which (begins_accessors (w ∷ ws))) [
       | inl is ↦ braced_goes d w (open_of w ws is)
       | inr isnt' ↦ (ws, x, inr (isnt', s))
@@ -537,16 +537,16 @@ module _ (B : ℕ → Bool → Rule Block) (b : ℕ → Bool → Reader Block) (
     unfolding read.blocks
     deep_opens_listed n = deep_alt opens_nesting n (mark t.OpenBrace) (λ _. read.rest_of_blocks b (suc d)) refuse (λ _. (parses_rest.chooses.nest d (n - 1)).deep) (deep_refuse opens_nesting n)
 
-    nest_plain : (n : ℕ) → Nests (suc d) n (Plain (suc d)) (plain d)
+    nest_plain : (n : ℕ) → ReadsInner (suc d) n (Plain (suc d)) (plain d)
     unfolding read.getter
     nest_plain n = nest_made (May (suc d)) opens_nesting n (B (suc d) false) (b (suc d) false) (λ x. accessors.Block x) (blocks.nest (suc d) false n)
 
     braced_keeps : (n : ℕ) (us : List Piece) (w : Piece) (more : List Piece) → length (us ++ w ∷ more) ≤ n → opens_nesting w ≡ true →
-        (c : Bool) → begins_accessors (us ++ w ∷ more) ≡ c → left_of (cond c (listed d (us ++ w ∷ more)) (plain d (us ++ w ∷ more))) ≤ length more → Goes (Braced (suc d)) (us ++ w ∷ [])
+        (c : Bool) → begins_accessors (us ++ w ∷ more) ≡ c → left_of (cond c (listed d (us ++ w ∷ more)) (plain d (us ++ w ∷ more))) ≤ length more → IsViablePrefix (Braced (suc d)) (us ++ w ∷ [])
     braced_keeps n us w more fits opens true is le = listed_keeps n us w more fits opens is le
     braced_keeps n us w more fits opens false isnt le = plain_keeps us w more opens isnt ((nest_plain n).keeps us w more fits opens le).1
 
-  nest_braced : (d n : ℕ) → Nests d n (Braced d) (read.braces b d true)
+  nest_braced : (d n : ℕ) → ReadsInner d n (Braced d) (read.braces b d true)
   unfolding read.braces
   nest_braced zero n = nest_ext (May 0) opens_nesting n (Braced 0) barred_open (read.braces b 0 true) shallow_same
       (nest_bar (May 0) opens_nesting n (mark t.OpenBrace) (Braced 0) refuse brace_opens (nest_refuse (May 0) opens_nesting n (Braced 0)))
@@ -566,7 +566,7 @@ module _ (B : ℕ → Bool → Rule Block) (b : ℕ → Bool → Reader Block) (
       let (y, s', e) = of_map (B d false) (λ y. accessors.Block y) us x s in (parses_block false).chooses.front d us rest y s' stop
 
   -- "{" "get" ["set"] "}"
-  parses_rest_of_gets : Parses (these (0 ∷ [])) Anything (λ _. grammar.Rest_of_gets) (λ _. read.rest_of_gets)
+  parses_rest_of_gets : Parses (these (0 ∷ [])) Anything (λ _. grammar.GetsTail) (λ _. read.rest_of_gets)
   unfolding read.rest_of_gets
   parses_rest_of_gets = parses_led refl refl refl (word_test (codes "get")) (λ _. parses_alt {F = Anything} {H = these (69 ∷ [])} refl refl refl refl (word_test (codes "set"))
       (λ _. parses_led {F = Anything} refl refl refl (mark_test t.CloseBrace) (λ _. parses_pure refl accessors.GetSet)) (parses_led refl refl refl (mark_test t.CloseBrace) (λ _. parses_pure refl accessors.Get)).chooses)
@@ -591,7 +591,7 @@ module _ (B : ℕ → Bool → Rule Block) (b : ℕ → Bool → Reader Block) (
   takes_braces false zero u is us bad = let both = sym (ap (λ o. barred (paired o us) (suc (length us)) (Err (Grammar (suc (length us))))) (is_marked t.OpenBrace u is)) ∙ bad in cc
   takes_braces false (suc d) u is us bad =
       let refused : read.rest_of_gets us ≡ Err (Grammar (suc (length us))) = sym (ap (λ o. branch (paired o us) (λ _. read.rest_of_gets) (Err (Grammar (suc (length us))))) (is_marked t.OpenBrace u is)) ∙ bad in
-      let short = refused_within (In Anything) grammar.Rest_of_gets grammar.Rest_of_gets read.rest_of_gets (λ n. parses_rest_of_gets.chooses.right 0 n) us (suc (length us)) refused in
+      let short = refused_within (In Anything) grammar.GetsTail grammar.GetsTail read.rest_of_gets (λ n. parses_rest_of_gets.chooses.right 0 n) us (suc (length us)) refused in
       omega (arith, short)
 
   begins_braces : (bodies : Bool) (d : ℕ) → Begins (λ u. is_open u ≡ true) (grammar.Braces B d bodies)
@@ -618,7 +618,7 @@ module _ (B : ℕ → Bool → Rule Block) (b : ℕ → Bool → Reader Block) (
   stored_apart true us rest x s stop = ap (λ y. starts is_open (y ++ rest)) s.0 ∙ starts_is is_open rest ∙ ends_open (first rest) stop
   stored_apart false us rest x s stop = absurd s
 
-  pub parses_accessors : (bodies may : Bool) → Parses Ends_or_brace Ends (λ d. grammar.IsAccessors B d bodies may) (λ d. read.accessors_of b d bodies may)
+  pub parses_accessors : (bodies may : Bool) → Parses EndsOrBrace Ends (λ d. grammar.IsAccessors B d bodies may) (λ d. read.accessors_of b d bodies may)
   unfolding read.accessors_of
   parses_accessors bodies may = record {
     chooses = record {
@@ -627,8 +627,8 @@ module _ (B : ℕ → Bool → Rule Block) (b : ℕ → Bool → Reader Block) (
           ((parses_stored may).right d n) (begins_braces bodies d) (λ u us fits is bad. takes_braces bodies d u is us bad) (stored_apart may);
       deeper = λ d. deeper_choose (starts is_open) (read.braces b d bodies) (read.braces b (suc d) bodies) (read.stored may) (read.stored may) ((parses_braces bodies).chooses.deeper d) (same_refl (read.stored may));
       front = λ d us rest x s stop. elim s [
-        | inl s' ↦ into (these (68 ∷ [])) Ends_or_brace refl (first (us ++ rest)) ((parses_braces bodies).chooses.front d us rest x s' refl)
-        | inr s' ↦ into Ends Ends_or_brace refl (first (us ++ rest)) ((parses_stored may).front d us rest x s' stop)
+        | inl s' ↦ into (these (68 ∷ [])) EndsOrBrace refl (first (us ++ rest)) ((parses_braces bodies).chooses.front d us rest x s' refl)
+        | inr s' ↦ into Ends EndsOrBrace refl (first (us ++ rest)) ((parses_stored may).front d us rest x s' stop)
       ];
       nest = λ d n. nest_choose (May d) opens_nesting n (starts is_open) (grammar.Braces B d bodies) (grammar.Stored may) (read.braces b d bodies) (read.stored may)
           ((parses_braces bodies).chooses.nest d n) ((parses_stored may).nest d n);

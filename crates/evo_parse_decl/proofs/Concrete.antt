@@ -4,9 +4,9 @@ use Rattle.std.specs.Prelude.{◌&&◌, codes}
 use Rattle.std.specs.Str.{bytes_eq, is_utf8}
 use Rattle.std.proofs.lemmas.Slice.Eq.{bytes_eq-Decides}
 use Rattle.std.proofs.lemmas.Str.{IsUtf8-from_ascii, is_utf8-from_IsUtf8}
-use Rattle.evo_combinators.specs.Rule.{Only, Nothing, Led, Or, Then, Goes}
+use Rattle.evo_combinators.specs.Rule.{Empty, Fail, TokenThen, Or, Then, IsViablePrefix}
 use Rattle.evo_combinators.specs.Reader.{bar, refuse}
-use Rattle.evo_combinators.specs.Laws.{Grammar_of}
+use Rattle.evo_combinators.specs.Laws.{GrammarOf}
 use Rattle.evo_combinators.proofs.Laws.{right_stop}
 use Rattle.evo_tree.specs.declared.expression.Expr.{Expr}
 use Rattle.evo_tree.specs.declared.statement.Block.{Block}
@@ -16,19 +16,19 @@ use Rattle.evo_tree.specs.declared.terminal.Terminal.TheVariants as t
 use Rattle.evo_tree.specs.Pieces.{Piece, is_terminal, mark, is_identifier}
 use Rattle.evo_tree.specs.Expressions.{Rule, Nested, IsExpr}
 use Rattle.evo_tree.specs.Statements as grammar
-use Rattle.evo_tree.specs.Statements.{IsStmt, IsBlock, Rest_of_block}
+use Rattle.evo_tree.specs.Statements.{IsStmt, IsBlock, BlockTail}
 use Rattle.evo_tree.specs.Declarations.{is_get}
 use Rattle.evo_parse_stmt.specs.Read.{block, block_of, inner_of}
 use Rattle.evo_parse_expr.specs.Read.{Reader}
-use Rattle.evo_parse_expr.proofs.Right.{named_expr}
+use Rattle.evo_parse_expr.proofs.ReadsRule.{named_expr}
 use Rattle.evo_parse_stmt.proofs.Family.{block_grammar, nest_block}
 use Rattle.evo_parse_header.proofs.Sets.{but, In}
 use Rattle.evo_parse_header.proofs.Tests.{mark_is, is_marked, get_utf8, a_piece}
 use Rattle.evo_parse_decl.proofs.Accessors.{Blocks}
-use Rattle.evo_parse_decl.specs.Closed.{Block_at, block_at}
+use Rattle.evo_parse_decl.specs.Closed.{BlockAt, block_at}
 
 -- statements in braces are between them
-braced_at : (S : Rule Stmt) (us : List Piece) (x : Block) → Led (mark t.OpenBrace) (Rest_of_block S) us x →
+braced_at : (S : Rule Stmt) (us : List Piece) (x : Block) → TokenThen (mark t.OpenBrace) (BlockTail S) us x →
     (u : Piece) × (vs : List Piece) × (v : Piece) × (us ≡ u ∷ (vs ++ v ∷ [])) × (is_terminal t.OpenBrace u ≡ true) × (is_terminal t.CloseBrace v ≡ true)
 braced_at S us x (u, p, vs, cut, takes, (ss, xs, ys, cut', run, (v, q, zs, cut'', takes', (none, e)))) =
     (u, xs, v, cut ∙ ap (λ k. u ∷ k) (cut' ∙ ap (λ k. xs ++ k) (cut'' ∙ ap (λ k. v ∷ k) none)), mark_is t.OpenBrace u p takes, mark_is t.CloseBrace v q takes')
@@ -46,7 +46,7 @@ closed : is_terminal t.CloseBrace a_close ≡ true
 unfolding a_close a_piece
 closed = refl
 
-pub blocks : Blocks Block_at block_at
+pub blocks : Blocks BlockAt block_at
 unfolding block_of
 blocks = record {
   right = λ d i n. right_stop n _ (In (but [])) (IsBlock i d) (IsBlock i (suc d)) (block i d) (λ x h. tt) refl ((block_grammar i).right d n);
@@ -65,7 +65,7 @@ blocks = record {
     braced (suc d) i us x (inl led) = braced_at (IsStmt i d) us x led
     braced (suc d) i us x (inr none) = absurd none
 
-    begun : (d : ℕ) (u v : Piece) → is_terminal t.OpenBrace u ≡ true → is_get v ≡ true → Goes (IsBlock false (suc d)) (u ∷ v ∷ [])
+    begun : (d : ℕ) (u v : Piece) → is_terminal t.OpenBrace u ≡ true → is_get v ≡ true → IsViablePrefix (IsBlock false (suc d)) (u ∷ v ∷ [])
     begun d u v is is' =
         let (x, st) = named_stmt d v (get_utf8 v is') in
         let close = a_close in (

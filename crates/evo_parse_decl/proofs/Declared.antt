@@ -3,12 +3,12 @@ use Rattle.std.proofs.Common.{◌≡◌, ℕ, zero, suc, ◌+◌, ◌-◌, ◌�
 use Rattle.std.specs.Prelude.{◌&&◌, ◌||◌, not, map, flat_map, cond, codes}
 use Rattle.evo_base.specs.declared.place.Place.{Place}
 use Rattle.evo_combinators.specs.declared.Fault.TheVariants.{Grammar}
-use Rattle.evo_combinators.specs.Rule.{Only, Nothing, Led, One, Or, Then, Some_of, Goes}
+use Rattle.evo_combinators.specs.Rule.{Empty, Fail, TokenThen, One, Or, Then, SomeOf, IsViablePrefix}
 use Rattle.evo_combinators.specs.Reader.{Outcome, ◌>>=◌, and_then, pure, refuse, alt, one, lead, paired, branch}
 use Rattle.evo_combinators.specs.Guard.{On, Run, on, run, run_from, starts}
-use Rattle.evo_combinators.specs.Laws.{Begins, Deeper, Right, Takes, Skips, first, of_first}
+use Rattle.evo_combinators.specs.Laws.{Begins, GrowsWithNesting, ReadsRule, Takes, Skips, first, of_first}
 use Rattle.evo_combinators.proofs.Laws.{of_map, to_map, right_map, right_pure, right_nothing, right_same, right_then_by, right_stop, begins_then}
-use Rattle.evo_combinators.proofs.Deeper.{deeper_then, same_refl}
+use Rattle.evo_combinators.proofs.GrowsWithNesting.{deeper_then, same_refl}
 use Rattle.evo_combinators.proofs.GuardDeeper.{deeper_choose}
 use Rattle.evo_combinators.proofs.GuardLaws.{starts_is, right_on}
 use Rattle.evo_combinators.proofs.FilterLaws.{right_filter}
@@ -25,7 +25,7 @@ use Rattle.evo_tree.specs.Pieces.{Piece, is_terminal, mark, word, opens_nesting}
 use Rattle.evo_tree.specs.Expressions.{Rule}
 use Rattle.evo_tree.specs.Declarations as grammar
 use Rattle.evo_tree.specs.declared.declaration.AttrKind.TheVariants as attr
-use Rattle.evo_tree.specs.Declarations.{attribute, declaration, modifier_word, Declaration_of, Lines, Next, Below}
+use Rattle.evo_tree.specs.Declarations.{attribute, declaration, modifier_word, DeclarationOf, Lines, Next, Below}
 use Rattle.evo_parse_header.specs.Read as header
 use Rattle.evo_parse_decl.specs.Read as read
 use Rattle.evo_parse_expr.specs.Read.{Reader}
@@ -37,12 +37,12 @@ use Rattle.evo_parse_decl.specs.Read.{begins_declaration, goes_on}
 use Rattle.evo_parse_header.proofs.Sets.{Set, these, In, included, among, Ends, none_holds, into}
 use Rattle.evo_parse_header.proofs.Parses.{Chooses, Parses, parses_then, parses_map, parses_alt, parses_run}
 use Rattle.evo_parse_header.proofs.Tests.{a_piece, mark_test, is_number, mark_is, is_marked, modifier_numbers}
-use Rattle.evo_parse_header.proofs.Productions.{Kind_words, Words, parses_attributes, parses_modifiers, modifier_is, is_modifier_word}
+use Rattle.evo_parse_header.proofs.Productions.{KindWords, Words, parses_attributes, parses_modifiers, modifier_is, is_modifier_word}
 use Rattle.evo_parse_decl.proofs.Prefixes.{takes_begun}
 
 -- what a declaration begins with
 abbrev pub Firsts : List ℕ
-Firsts = 74 ∷ Words ++ Kind_words
+Firsts = 74 ∷ Words ++ KindWords
 
 which : (b : Bool) → (b ≡ true) ⊎ (b ≡ false)
 which true = inl refl
@@ -73,33 +73,33 @@ modifiers_none : (u : Piece) (us : List Piece) → is_modifier [] u ≡ false �
 unfolding header.modifiers
 modifiers_none u us isnt = run_none is_modifier (λ ms. one (modifier_word ms)) (λ ms m. ms ++ m ∷ []) [] u us isnt
 
-attributes_go : (d : ℕ) (u : Piece) → is_terminal t.At u ≡ true → Goes (grammar.Attributes d) (u ∷ [])
+attributes_go : (d : ℕ) (u : Piece) → is_terminal t.At u ≡ true → IsViablePrefix (grammar.Attributes d) (u ∷ [])
 unfolding a_piece grammar.attribute_word
 attributes_go d u is =
     let frozen = a_piece t.Identifier (codes "frozen") in
     (frozen ∷ [], attribute u.place attr.Frozen ∷ [], (u ∷ frozen ∷ [], [], refl, (u, u.place, frozen ∷ [], refl, is_marked t.At u is, inl (frozen, attr.Frozen, [], refl, refl, (refl, refl))), refl))
 
-modifiers_go : (u : Piece) → is_modifier [] u ≡ true → Goes grammar.Modifiers (u ∷ [])
+modifiers_go : (u : Piece) → is_modifier [] u ≡ true → IsViablePrefix grammar.Modifiers (u ∷ [])
 modifiers_go u is = let (m, takes) = is_modifier_word [] u is in ([], m ∷ [], (u ∷ [], [], refl, (u, m, [], refl, takes, (refl, refl)), refl))
 
 module _ (s : Scope) (St : Set) (K : ℕ → List Attr → Rule (Place × List DeclKind)) (kind : ℕ → List Attr → Reader (Place × List DeclKind)) (g : Piece → Bool)
-    (fits : (attrs : List Attr) → Parses (these Kind_words) St (λ d. K d attrs) (λ d. kind d attrs)) (begins : (d : ℕ) → Begins (λ u. g u ≡ true) (K d []))
+    (fits : (attrs : List Attr) → Parses (these KindWords) St (λ d. K d attrs) (λ d. kind d attrs)) (begins : (d : ℕ) → Begins (λ u. g u ≡ true) (K d []))
     (takes : (d : ℕ) (u : Piece) → g u ≡ true → Takes (kind d []) u) (numbers : (u : Piece) → g u ≡ true → among (number_of u.terminal) Firsts ≡ true) where
-  parses_behind_modifiers : (attrs : List Attr) (ms : List Modifier) → Parses (these Kind_words) St (λ d. Then (K d attrs) (λ w. Only (map (declaration s attrs ms w.0) w.1))) (λ d. kind d attrs >>= (λ w. pure (map (declaration s attrs ms w.0) w.1)))
+  parses_behind_modifiers : (attrs : List Attr) (ms : List Modifier) → Parses (these KindWords) St (λ d. Then (K d attrs) (λ w. Empty (map (declaration s attrs ms w.0) w.1))) (λ d. kind d attrs >>= (λ w. pure (map (declaration s attrs ms w.0) w.1)))
   parses_behind_modifiers attrs ms = parses_map (λ w. map (declaration s attrs ms w.0) w.1) (fits attrs)
 
-  parses_behind_attributes : (attrs : List Attr) → Parses (these (100 ∷ Words ++ Kind_words)) St
-      (λ d. Then grammar.Modifiers (λ ms. Then (K d attrs) (λ w. Only (map (declaration s attrs ms w.0) w.1)))) (λ d. header.modifiers >>= (λ ms. kind d attrs >>= (λ w. pure (map (declaration s attrs ms w.0) w.1))))
+  parses_behind_attributes : (attrs : List Attr) → Parses (these (100 ∷ Words ++ KindWords)) St
+      (λ d. Then grammar.Modifiers (λ ms. Then (K d attrs) (λ w. Empty (map (declaration s attrs ms w.0) w.1)))) (λ d. header.modifiers >>= (λ ms. kind d attrs >>= (λ w. pure (map (declaration s attrs ms w.0) w.1))))
   parses_behind_attributes attrs = parses_then refl parses_modifiers (parses_behind_modifiers attrs)
 
-  pub parses_declaration : Parses (these (74 ∷ 100 ∷ Words ++ Kind_words)) St (λ d. Declaration_of s d (K d)) (λ d. read.declaration_of s d (kind d))
+  pub parses_declaration : Parses (these (74 ∷ 100 ∷ Words ++ KindWords)) St (λ d. DeclarationOf s d (K d)) (λ d. read.declaration_of s d (kind d))
   unfolding read.declaration_of
   parses_declaration = parses_then refl parses_attributes parses_behind_attributes
 
   -- it begins with such a token, and no such token is refused
-  pub begins_of_declaration : (d : ℕ) → Begins (λ u. begins_declaration g u ≡ true) (Declaration_of s d (K d))
+  pub begins_of_declaration : (d : ℕ) → Begins (λ u. begins_declaration g u ≡ true) (DeclarationOf s d (K d))
   begins_of_declaration d us x ([], vs, ws, cut, none, ([], xs, ys, cut', none', r)) =
-      let (u, zs, cut3, is) = begins_then (λ u. g u ≡ true) (K d []) (λ w. Only (map (declaration s [] [] w.0) w.1)) (begins d) ys x r in
+      let (u, zs, cut3, is) = begins_then (λ u. g u ≡ true) (K d []) (λ w. Empty (map (declaration s [] [] w.0) w.1)) (begins d) ys x r in
       (u, zs, cut ∙ ap (λ k. k ++ ws) none ∙ cut' ∙ ap (λ k. k ++ ys) none' ∙ cut3, or_right (is_terminal t.At u) _ (or_right (is_modifier [] u) (g u) is))
   begins_of_declaration d us x ([], vs, ws, cut, none, (m ∷ ms, xs, ys, cut', (as', bs, cut3, (u, m', cs, cut4, takes', s'), run'), r)) =
       (u, _, cut ∙ ap (λ k. k ++ ws) none ∙ cut' ∙ ap (λ k. k ++ ys) (cut3 ∙ ap (λ k. k ++ bs) cut4), or_right (is_terminal t.At u) _ (or_left (is_modifier [] u) (g u) (modifier_is [] u m' takes')))
@@ -109,7 +109,7 @@ module _ (s : Scope) (St : Set) (K : ℕ → List Attr → Rule (Place × List D
   pub takes_declaration : (d : ℕ) (u : Piece) → begins_declaration g u ≡ true → Takes (read.declaration_of s d (kind d)) u
   unfolding read.declaration_of
   takes_declaration d u is = elim (which (is_terminal t.At u)) [
-    | inl at ↦ takes_begun (In (these (100 ∷ Words ++ Kind_words))) (In St) (grammar.Attributes d) (grammar.Attributes (suc d)) _ _ (header.attributes d) _ (λ n. parses_attributes.chooses.right d n)
+    | inl at ↦ takes_begun (In (these (100 ∷ Words ++ KindWords))) (In St) (grammar.Attributes d) (grammar.Attributes (suc d)) _ _ (header.attributes d) _ (λ n. parses_attributes.chooses.right d n)
         (λ attrs n. (parses_behind_attributes attrs).chooses.right d n) u (attributes_go d u at)
     | inr elsewhere ↦ λ us bad. later (or_rest (is_terminal t.At u) _ elsewhere is) us
         (sym (ap (λ o. and_then o (λ attrs. header.modifiers >>= (λ ms. kind d attrs >>= (λ w. pure (map (declaration s attrs ms w.0) w.1))))) (attributes_none d u us elsewhere)) ∙ bad)
@@ -119,12 +119,12 @@ module _ (s : Scope) (St : Set) (K : ℕ → List Attr → Rule (Place × List D
       no_kind x r = let (v, vs, cut, h) = begins d [] x r in cc
 
       last : g u ≡ true → Takes (kind d [] >>= (λ w. pure (map (declaration s [] [] w.0) w.1))) u
-      last is = takes_then (In St) (λ x. Unit {0}) (K d []) (K (suc d) []) (λ w. Only (map (declaration s [] [] w.0) w.1)) (λ w. Only (map (declaration s [] [] w.0) w.1)) (kind d []) _ u
+      last is = takes_then (In St) (λ x. Unit {0}) (K d []) (K (suc d) []) (λ w. Empty (map (declaration s [] [] w.0) w.1)) (λ w. Empty (map (declaration s [] [] w.0) w.1)) (kind d []) _ u
           (λ n. (fits []).chooses.right d n) (λ w n. right_pure n (λ x. Unit {0}) tt (map (declaration s [] [] w.0) w.1)) no_kind (takes d u is)
 
       later : (is_modifier [] u || g u) ≡ true → Takes (header.modifiers >>= (λ ms. kind d [] >>= (λ w. pure (map (declaration s [] ms w.0) w.1)))) u
       later is = elim (which (is_modifier [] u)) [
-        | inl modifier ↦ takes_begun (In (these (100 ∷ Kind_words))) (In St) grammar.Modifiers grammar.Modifiers _ _ header.modifiers _ (λ n. parses_modifiers.chooses.right 0 n)
+        | inl modifier ↦ takes_begun (In (these (100 ∷ KindWords))) (In St) grammar.Modifiers grammar.Modifiers _ _ header.modifiers _ (λ n. parses_modifiers.chooses.right 0 n)
             (λ ms n. (parses_behind_modifiers [] ms).chooses.right d n) u (modifiers_go u modifier)
         | inr elsewhere ↦ λ us bad. last (or_rest (is_modifier [] u) (g u) elsewhere is) us
             (sym (ap (λ o. and_then o (λ ms. kind d [] >>= (λ w. pure (map (declaration s [] ms w.0) w.1)))) (modifiers_none u us elsewhere)) ∙ bad)
@@ -162,13 +162,13 @@ module _ {A : Type 0} (F : Set) (g : Piece → Bool) (S : ℕ → Rule A) (p : �
   full : (d : ℕ) (x : A) → S d [] x → ⊥
   full d x s = let (u, vs, cut, is) = entered.begins d [] x s in cc
 
-  no_nothing : (R : Rule A) (us : List Piece) (x : A) → Or R Nothing us x → R us x
+  no_nothing : (R : Rule A) (us : List Piece) (x : A) → Or R Fail us x → R us x
   no_nothing R us x (inl s) = s
   no_nothing R us x (inr none) = absurd none
 
-  chooses_below : Chooses (these Firsts) Ends (λ d. Or (Below (S d)) Nothing) (λ d. on (λ u. u.below) (p d) refuse)
+  chooses_below : Chooses (these Firsts) Ends (λ d. Or (Below (S d)) Fail) (λ d. on (λ u. u.below) (p d) refuse)
   chooses_below = record {
-    right = λ d n. right_same n (In Ends) (Below (S d)) (Below (S (suc d))) (Or (Below (S d)) Nothing) (Or (Below (S (suc d))) Nothing) (on (λ u. u.below) (p d) refuse)
+    right = λ d n. right_same n (In Ends) (Below (S d)) (Below (S (suc d))) (Or (Below (S d)) Fail) (Or (Below (S (suc d))) Fail) (on (λ u. u.below) (p d) refuse)
         (λ us x s. inl s) (no_nothing (Below (S d))) (λ us x s. inl s)
         (right_filter n (In Ends) (λ u. u.below) (S d) (S (suc d)) (p d) (entered.fits.chooses.right d n) (full d));
     deeper = λ d. deeper_choose (starts (λ u. u.below)) (p d) (p (suc d)) refuse refuse (entered.fits.chooses.deeper d) (same_refl refuse);
@@ -176,7 +176,7 @@ module _ {A : Type 0} (F : Set) (g : Piece → Bool) (S : ℕ → Rule A) (p : �
         let (v, vs, cut, is, s') = no_nothing (Below (S d)) us x s in
         let (u, ws, cut', h) = entered.begins d us x s' in
         subst (λ k. In (these Firsts) (first (k ++ rest))) (sym cut') (entered.numbers u h);
-    nest = λ d n. nest_by (May d) opens_nesting n (Below (S d)) (Or (Below (S d)) Nothing) (on (λ u. u.below) (p d) refuse) (λ us x s. inl s)
+    nest = λ d n. nest_by (May d) opens_nesting n (Below (S d)) (Or (Below (S d)) Fail) (on (λ u. u.below) (p d) refuse) (λ us x s. inl s)
         (nest_filter (May d) opens_nesting n (λ u. u.below) (S d) (p d) (entered.fits.chooses.nest d n));
   }
 
@@ -219,12 +219,12 @@ module _ {A : Type 0} (F : Set) (g : Piece → Bool) (S : ℕ → Rule A) (p : �
       (λ d _. begins_next d) (λ _. numbers_of_next) (λ d _. takes_next d) true
 
   abbrev All : ℕ → Rule (List A)
-  All d = Then (S d) (λ x. Then (Nexts d) (λ xs. Only (x ∷ xs)))
+  All d = Then (S d) (λ x. Then (Nexts d) (λ xs. Empty (x ∷ xs)))
 
   abbrev all : ℕ → Reader (List A)
   all d = p d >>= (λ x. nexts d >>= (λ xs. pure (x ∷ xs)))
 
-  parses_tail : (x : A) → Parses (these (69 ∷ 100 ∷ 71 ∷ Firsts)) (these (69 ∷ 100 ∷ [])) (λ d. Then (Nexts d) (λ xs. Only (x ∷ xs))) (λ d. nexts d >>= (λ xs. pure (x ∷ xs)))
+  parses_tail : (x : A) → Parses (these (69 ∷ 100 ∷ 71 ∷ Firsts)) (these (69 ∷ 100 ∷ [])) (λ d. Then (Nexts d) (λ xs. Empty (x ∷ xs))) (λ d. nexts d >>= (λ xs. pure (x ∷ xs)))
   parses_tail x = parses_map (λ xs. x ∷ xs) parses_nexts
 
   parses_all : Parses F (these (69 ∷ 100 ∷ [])) All all
@@ -242,16 +242,16 @@ module _ {A : Type 0} (F : Set) (g : Piece → Bool) (S : ℕ → Rule A) (p : �
   unfolding read.lines
   parses_lines wide = record {
     chooses = record {
-      right = λ d n. right_on n (In (these (69 ∷ 100 ∷ []))) g (All d) (All (suc d)) (Only []) (Only []) (all d) (pure []) (parses_all.chooses.right d n) (right_pure n (In (these (69 ∷ 100 ∷ []))) refl [])
-          (begins_then (λ u. g u ≡ true) (S d) (λ x. Then (Nexts d) (λ xs. Only (x ∷ xs))) (entered.begins d))
-          (λ u us fits is bad. takes_then (In Ends) (In (these (69 ∷ 100 ∷ []))) (S d) (S (suc d)) (λ x. Then (Nexts d) (λ xs. Only (x ∷ xs))) (λ x. Then (Nexts (suc d)) (λ xs. Only (x ∷ xs))) (p d) (λ x. nexts d >>= (λ xs. pure (x ∷ xs))) u (λ n. entered.fits.chooses.right d n) (λ x n. (parses_tail x).chooses.right d n) (full d) (entered.takes d u is) us bad)
+      right = λ d n. right_on n (In (these (69 ∷ 100 ∷ []))) g (All d) (All (suc d)) (Empty []) (Empty []) (all d) (pure []) (parses_all.chooses.right d n) (right_pure n (In (these (69 ∷ 100 ∷ []))) refl [])
+          (begins_then (λ u. g u ≡ true) (S d) (λ x. Then (Nexts d) (λ xs. Empty (x ∷ xs))) (entered.begins d))
+          (λ u us fits is bad. takes_then (In Ends) (In (these (69 ∷ 100 ∷ []))) (S d) (S (suc d)) (λ x. Then (Nexts d) (λ xs. Empty (x ∷ xs))) (λ x. Then (Nexts (suc d)) (λ xs. Empty (x ∷ xs))) (p d) (λ x. nexts d >>= (λ xs. pure (x ∷ xs))) u (λ n. entered.fits.chooses.right d n) (λ x n. (parses_tail x).chooses.right d n) (full d) (entered.takes d u is) us bad)
           (λ us rest x s stop. ap (λ y. starts g (y ++ rest)) s.0 ∙ starts_is g rest ∙ no_first (first rest) stop);
       deeper = λ d. deeper_choose (starts g) (all d) (all (suc d)) (pure []) (pure []) (parses_all.chooses.deeper d) (same_refl (pure []));
       front = λ d us rest x s stop. elim s [
         | inl s' ↦ into F (these (69 ∷ 100 ∷ 71 ∷ Firsts)) wide (first (us ++ rest)) (parses_all.chooses.front d us rest x s' stop)
         | inr s' ↦ subst (λ y. In (these (69 ∷ 100 ∷ 71 ∷ Firsts)) (first (y ++ rest))) (sym s'.0) (into (these (69 ∷ 100 ∷ [])) (these (69 ∷ 100 ∷ 71 ∷ Firsts)) refl (first rest) stop)
       ];
-      nest = λ d n. nest_choose (May d) opens_nesting n (starts g) (All d) (Only []) (all d) (pure []) (parses_all.chooses.nest d n) (nest_pure (May d) opens_nesting n (Only []) []);
+      nest = λ d n. nest_choose (May d) opens_nesting n (starts g) (All d) (Empty []) (all d) (pure []) (parses_all.chooses.nest d n) (nest_pure (May d) opens_nesting n (Empty []) []);
     };
     some = λ d. ([], [], inr (refl, refl));
   }

@@ -1,10 +1,10 @@
 -- What a reader does with tokens with which a spelling goes on.
 use Rattle.std.proofs.Common.{◌≡◌, ℕ, suc, ◌+◌, ◌≤◌, List, [], ◌∷◌, ◌++◌, length, Option, Ok, Err, refl, sym, ◌∙◌, ap, subst, arith, inl, inr, append-nil, append_assoc, length-append}
 use Rattle.evo_combinators.specs.declared.Fault.TheVariants.{Grammar, Deep}
-use Rattle.evo_combinators.specs.Rule.{Goes}
+use Rattle.evo_combinators.specs.Rule.{IsViablePrefix}
 use Rattle.evo_combinators.specs.Reader.{Reader, ◌>>=◌}
-use Rattle.evo_combinators.specs.Laws.{Like, Right, Takes, first}
-use Rattle.evo_combinators.proofs.Laws.{Like-refl, split_err}
+use Rattle.evo_combinators.specs.Laws.{SameLookahead, ReadsRule, Takes, first}
+use Rattle.evo_combinators.proofs.Laws.{SameLookahead-refl, split_err}
 use Rattle.evo_combinators.proofs.Entered.{refused_within}
 
 -- two cuts with rests of one length are the same
@@ -17,21 +17,21 @@ same_cut {T} (u ∷ us) (v ∷ us') rest rest' cut long =
     let (same, same') = same_cut us us' rest rest' both.1 long in
     (cc, same')
 
-module _ {T A : Type 0} (Stop : Option T → Type 0) (S W : List T → A → Type 0) (p : Reader T A) (right : (n : ℕ) → Right n Stop S W p) where
+module _ {T A : Type 0} (Stop : Option T → Type 0) (S W : List T → A → Type 0) (p : Reader T A) (right : (n : ℕ) → ReadsRule n Stop S W p) where
   read_whole : (ts w : List T) (a : A) → S (ts ++ w) a → p (ts ++ w) ≡ Ok (a, [])
   read_whole ts w a s = ap p (sym (append-nil (ts ++ w))) ∙ (right (length ((ts ++ w) ++ []))).complete (ts ++ w) [] a (omega arith) s (right 0).ended
 
   -- they are refused at their end alone
-  pub goes_end : (ts : List T) (k : ℕ) → Goes S ts → p ts ≡ Err (Grammar k) → k ≡ 0
+  pub goes_end : (ts : List T) (k : ℕ) → IsViablePrefix S ts → p ts ≡ Err (Grammar k) → k ≡ 0
   goes_end ts k (w, a, s) bad =
       let n = length ts + length w in
       let (us, rest, cut, g, again) = (right n).refuses ts k (omega arith) bad in
-      let here = again rest (subst (λ x. length x ≤ n) cut (omega arith)) (Like-refl rest) in
+      let here = again rest (subst (λ x. length x ≤ n) cut (omega arith)) (SameLookahead-refl rest) in
       let count : k ≡ length rest = let e = sym bad ∙ ap p cut ∙ here in cc in
       go us rest cut count again
     where
       go : (us rest : List T) → ts ≡ us ++ rest → k ≡ length rest →
-          ((more : List T) → length (us ++ more) ≤ length ts + length w → Like rest more → p (us ++ more) ≡ Err (Grammar (length more))) → k ≡ 0
+          ((more : List T) → length (us ++ more) ≤ length ts + length w → SameLookahead rest more → p (us ++ more) ≡ Err (Grammar (length more))) → k ≡ 0
       go us [] cut count again = count
       go us (t ∷ rest) cut count again =
           let whole : ts ++ w ≡ us ++ (t ∷ (rest ++ w)) = ap (λ x. x ++ w) cut ∙ append_assoc us (t ∷ rest) w in
@@ -39,7 +39,7 @@ module _ {T A : Type 0} (Stop : Option T → Type 0) (S W : List T → A → Typ
           let both = sym (read_whole ts w a s) ∙ ap p whole ∙ bad' in absurd (cc)
 
   -- and open nothing too deep
-  pub goes_shallow : (ts : List T) (k : ℕ) → Goes S ts → p ts ≡ Err (Deep k) → ⊥
+  pub goes_shallow : (ts : List T) (k : ℕ) → IsViablePrefix S ts → p ts ≡ Err (Deep k) → ⊥
   goes_shallow ts k (w, a, s) bad =
       let n = length ts + length w in
       let (us, t, rest, cut, g, o, again) = (right n).deepens ts k (omega arith) bad in
@@ -48,11 +48,11 @@ module _ {T A : Type 0} (Stop : Option T → Type 0) (S W : List T → A → Typ
       let both = sym (read_whole ts w a s) ∙ ap p whole ∙ bad' in cc
 
   -- a token with which a spelling goes on is not refused
-  pub goes_through : (us rest : List T) (t : T) → Goes S (us ++ t ∷ []) → p (us ++ t ∷ rest) ≡ Err (Grammar (suc (length rest))) → ⊥
+  pub goes_through : (us rest : List T) (t : T) → IsViablePrefix S (us ++ t ∷ []) → p (us ++ t ∷ rest) ≡ Err (Grammar (suc (length rest))) → ⊥
   goes_through us rest t g bad =
       let n = length (us ++ t ∷ rest) in
       let (us', rest', cut, g', again) = (right n).refuses (us ++ t ∷ rest) (suc (length rest)) (omega arith) bad in
-      let here = again rest' (subst (λ x. length x ≤ n) cut (omega arith)) (Like-refl rest') in
+      let here = again rest' (subst (λ x. length x ≤ n) cut (omega arith)) (SameLookahead-refl rest') in
       let count : suc (length rest) ≡ length rest' = let e = sym bad ∙ ap p cut ∙ here in cc in
       let (same, same') = same_cut us us' (t ∷ rest) rest' cut count in
       let short : length (us' ++ t ∷ []) ≤ n = subst (λ x. length (x ++ t ∷ []) ≤ n) same (omega (arith, length-append us (t ∷ []), length-append us (t ∷ rest))) in
@@ -60,7 +60,7 @@ module _ {T A : Type 0} (Stop : Option T → Type 0) (S W : List T → A → Typ
       let none = goes_end (us ++ t ∷ []) 1 g (ap (λ x. p (x ++ t ∷ [])) same ∙ bad') in
       omega arith
 
-  pub goes_under : (us rest : List T) (t : T) → Goes S (us ++ t ∷ []) → p (us ++ t ∷ rest) ≡ Err (Deep (suc (length rest))) → ⊥
+  pub goes_under : (us rest : List T) (t : T) → IsViablePrefix S (us ++ t ∷ []) → p (us ++ t ∷ rest) ≡ Err (Deep (suc (length rest))) → ⊥
   goes_under us rest t g bad =
       let n = length (us ++ t ∷ rest) in
       let (us', t', rest', cut, g', o, again) = (right n).deepens (us ++ t ∷ rest) (suc (length rest)) (omega arith) bad in
@@ -82,13 +82,13 @@ module _ {T A : Type 0} (Stop : Option T → Type 0) (S W : List T → A → Typ
       omega (arith, ap length cut, length-append us (t ∷ rest))
 
   -- a token with which a spelling begins is taken
-  pub goes_reads : (t : T) (us mid : List T) (a : A) → Goes S (t ∷ []) → p (t ∷ us) ≡ Ok (a, mid) → length mid ≤ length us
+  pub goes_reads : (t : T) (us mid : List T) (a : A) → IsViablePrefix S (t ∷ []) → p (t ∷ us) ≡ Ok (a, mid) → length mid ≤ length us
   goes_reads t us mid a (w, b, s) good =
       let n = length (t ∷ us) + length (t ∷ w) in
       let (vs, cut, s', again) = (right n).sound (t ∷ us) mid a (omega arith) good in
       go vs cut again
     where
-      go : (vs : List T) → t ∷ us ≡ vs ++ mid → ((more : List T) → length (vs ++ more) ≤ length (t ∷ us) + length (t ∷ w) → Like mid more → p (vs ++ more) ≡ Ok (a, more)) → length mid ≤ length us
+      go : (vs : List T) → t ∷ us ≡ vs ++ mid → ((more : List T) → length (vs ++ more) ≤ length (t ∷ us) + length (t ∷ w) → SameLookahead mid more → p (vs ++ more) ≡ Ok (a, more)) → length mid ≤ length us
       go [] cut again =
           let kept = again (t ∷ w) (omega arith) (inr (ap first cut)) in
           let both = sym (read_whole (t ∷ []) w b s) ∙ kept in
@@ -98,7 +98,7 @@ module _ {T A : Type 0} (Stop : Option T → Type 0) (S W : List T → A → Typ
 
 -- so it is not refused, whatever is read behind
 pub takes_begun : {T A B : Type 0} (Stop StopR : Option T → Type 0) (S W : List T → A → Type 0) (R R' : A → List T → B → Type 0) (p : Reader T A) (q : A → Reader T B) →
-    ((n : ℕ) → Right n Stop S W p) → ((a : A) (n : ℕ) → Right n StopR (R a) (R' a) (q a)) → (t : T) → Goes S (t ∷ []) → Takes (p >>= q) t
+    ((n : ℕ) → ReadsRule n Stop S W p) → ((a : A) (n : ℕ) → ReadsRule n StopR (R a) (R' a) (q a)) → (t : T) → IsViablePrefix S (t ∷ []) → Takes (p >>= q) t
 takes_begun Stop StopR S W R R' p q right right' t g us bad = elim (split_err (p (t ∷ us)) q (Grammar (suc (length us))) bad) [
   | inl here ↦ goes_through Stop S W p right [] us t g here
   | inr (a, mid, is, e) ↦

@@ -2,24 +2,24 @@
 use Rattle.std.proofs.Common.{◌≡◌, ℕ, suc, ◌≤◌, Bool, true, false, List, [], ◌∷◌, ◌++◌, length, Option, Ok, Err, refl, sym, ◌∙◌, ap, subst, ◌⊎◌, inl, inr, append_assoc}
 use Rattle.std.specs.Prelude.{cond}
 use Rattle.evo_combinators.specs.declared.Fault.TheVariants.{Grammar, Deep}
-use Rattle.evo_combinators.specs.Rule.{Or, Goes}
+use Rattle.evo_combinators.specs.Rule.{Or, IsViablePrefix}
 use Rattle.evo_combinators.specs.Reader.{Reader}
 use Rattle.evo_combinators.specs.Guard.{choose}
-use Rattle.evo_combinators.specs.Laws.{Like, Right, first}
-use Rattle.evo_combinators.proofs.Laws.{Like-refl, goes_by, maybe_by}
+use Rattle.evo_combinators.specs.Laws.{SameLookahead, ReadsRule, first}
+use Rattle.evo_combinators.proofs.Laws.{SameLookahead-refl, goes_by, maybe_by}
 use Rattle.evo_combinators.proofs.GuardLaws.{which}
 use Rattle.evo_tree.specs.Pieces.{Piece}
 use Rattle.evo_tree.specs.Declarations.{Unless}
 
 module _ {B : Type 0} (n : ℕ) (Stop : Option Piece → Type 0) (c : List Piece → Bool) (S S' R R' : List Piece → B → Type 0) (p r : Reader Piece B)
-    (right_p : Right n Stop S S' p) (right_r : Right n Stop R R' r)
+    (right_p : ReadsRule n Stop S S' p) (right_r : ReadsRule n Stop R R' r)
     (grows : (us more : List Piece) → c us ≡ true → c (us ++ more) ≡ true)
     (taken : (us : List Piece) (b : B) → S us b → c us ≡ true)
     (kept : (us more : List Piece) (b : B) → R us b → c us ≡ false → c (us ++ more) ≡ false)
-    (goes : (us rest : List Piece) → c (us ++ rest) ≡ false → Goes R' us → Goes (Or S' (Unless c R')) us)
-    (stay_p : (us rest more : List Piece) → length (us ++ rest) ≤ n → p (us ++ rest) ≡ Err (Grammar (length rest)) → c (us ++ rest) ≡ true → Like rest more →
+    (goes : (us rest : List Piece) → c (us ++ rest) ≡ false → IsViablePrefix R' us → IsViablePrefix (Or S' (Unless c R')) us)
+    (stay_p : (us rest more : List Piece) → length (us ++ rest) ≤ n → p (us ++ rest) ≡ Err (Grammar (length rest)) → c (us ++ rest) ≡ true → SameLookahead rest more →
     (c (us ++ more) ≡ true) ⊎ ((c (us ++ more) ≡ false) × (r (us ++ more) ≡ Err (Grammar (length more)))))
-    (stay_r : (us rest more : List Piece) → r (us ++ rest) ≡ Err (Grammar (length rest)) → c (us ++ rest) ≡ false → Like rest more → c (us ++ more) ≡ false)
+    (stay_r : (us rest more : List Piece) → r (us ++ rest) ≡ Err (Grammar (length rest)) → c (us ++ rest) ≡ false → SameLookahead rest more → c (us ++ more) ≡ false)
     (deep_p : (us rest more : List Piece) (t : Piece) → p (us ++ t ∷ rest) ≡ Err (Deep (suc (length rest))) → c (us ++ t ∷ rest) ≡ true → c (us ++ t ∷ more) ≡ true)
     (deep_r : (us rest more : List Piece) (t : Piece) → r (us ++ t ∷ rest) ≡ Err (Deep (suc (length rest))) → c (us ++ t ∷ rest) ≡ false → c (us ++ t ∷ more) ≡ false) where
   yes : (ts : List Piece) → c ts ≡ true → choose c p r ts ≡ p ts
@@ -40,7 +40,7 @@ module _ {B : Type 0} (n : ℕ) (Stop : Option Piece → Type 0) (c : List Piece
       go false yes = refl
 
   sound : (ts rest : List Piece) (b : B) → length ts ≤ n → choose c p r ts ≡ Ok (b, rest) →
-      (us : List Piece) × (ts ≡ us ++ rest) × Or S (Unless c R) us b × ((more : List Piece) → length (us ++ more) ≤ n → Like rest more → choose c p r (us ++ more) ≡ Ok (b, more))
+      (us : List Piece) × (ts ≡ us ++ rest) × Or S (Unless c R) us b × ((more : List Piece) → length (us ++ more) ≤ n → SameLookahead rest more → choose c p r (us ++ more) ≡ Ok (b, more))
   sound ts rest b fits e = elim (which (c ts)) [
     | inl is ↦
         let (us, cut, s, again) = right_p.sound ts rest b fits (sym (yes ts is) ∙ e) in
@@ -55,17 +55,17 @@ module _ {B : Type 0} (n : ℕ) (Stop : Option Piece → Type 0) (c : List Piece
   complete us rest b fits (inl s) stop = yes (us ++ rest) (grows us rest (taken us b s)) ∙ right_p.complete us rest b fits s stop
   complete us rest b fits (inr (is, s)) stop = no (us ++ rest) (kept us rest b s is) ∙ right_r.complete us rest b fits s stop
 
-  maybe_goes : (us rest : List Piece) → c (us ++ rest) ≡ false → (us ≡ []) ⊎ Goes R' us → (us ≡ []) ⊎ Goes (Or S' (Unless c R')) us
+  maybe_goes : (us rest : List Piece) → c (us ++ rest) ≡ false → (us ≡ []) ⊎ IsViablePrefix R' us → (us ≡ []) ⊎ IsViablePrefix (Or S' (Unless c R')) us
   maybe_goes us rest is (inl e) = inl e
   maybe_goes us rest is (inr g) = inr (goes us rest is g)
 
   refuses : (ts : List Piece) (k : ℕ) → length ts ≤ n → choose c p r ts ≡ Err (Grammar k) →
-      (us : List Piece) × (rest : List Piece) × (ts ≡ us ++ rest) × ((us ≡ []) ⊎ Goes (Or S' (Unless c R')) us)
-      × ((more : List Piece) → length (us ++ more) ≤ n → Like rest more → choose c p r (us ++ more) ≡ Err (Grammar (length more)))
+      (us : List Piece) × (rest : List Piece) × (ts ≡ us ++ rest) × ((us ≡ []) ⊎ IsViablePrefix (Or S' (Unless c R')) us)
+      × ((more : List Piece) → length (us ++ more) ≤ n → SameLookahead rest more → choose c p r (us ++ more) ≡ Err (Grammar (length more)))
   refuses ts k fits e = elim (which (c ts)) [
     | inl is ↦
         let (us, rest, cut, g, again) = right_p.refuses ts k fits (sym (yes ts is) ∙ e) in
-        let here = again rest (subst (λ x. length x ≤ n) cut fits) (Like-refl rest) in (
+        let here = again rest (subst (λ x. length x ≤ n) cut fits) (SameLookahead-refl rest) in (
           us,
           rest,
           cut,
@@ -77,16 +77,16 @@ module _ {B : Type 0} (n : ℕ) (Stop : Option Piece → Type 0) (c : List Piece
         )
     | inr is ↦
         let (us, rest, cut, g, again) = right_r.refuses ts k fits (sym (no ts is) ∙ e) in
-        let here = again rest (subst (λ x. length x ≤ n) cut fits) (Like-refl rest) in
+        let here = again rest (subst (λ x. length x ≤ n) cut fits) (SameLookahead-refl rest) in
         let is' = subst (λ x. c x ≡ false) cut is in
         (us, rest, cut, maybe_goes us rest is' g, λ more all like. no (us ++ more) (stay_r us rest more here is' like) ∙ again more all like)
   ]
 
-  opens : (us rest : List Piece) (t : Piece) → c (us ++ t ∷ rest) ≡ false → Goes R' (us ++ t ∷ []) → Goes (Or S' (Unless c R')) (us ++ t ∷ [])
+  opens : (us rest : List Piece) (t : Piece) → c (us ++ t ∷ rest) ≡ false → IsViablePrefix R' (us ++ t ∷ []) → IsViablePrefix (Or S' (Unless c R')) (us ++ t ∷ [])
   opens us rest t is g = goes (us ++ t ∷ []) rest (subst (λ x. c x ≡ false) (sym (append_assoc us (t ∷ []) rest)) is) g
 
   deepens : (ts : List Piece) (k : ℕ) → length ts ≤ n → choose c p r ts ≡ Err (Deep k) →
-      (us : List Piece) × (t : Piece) × (rest : List Piece) × (ts ≡ us ++ t ∷ rest) × ((us ≡ []) ⊎ Goes (Or S' (Unless c R')) us) × Goes (Or S' (Unless c R')) (us ++ t ∷ [])
+      (us : List Piece) × (t : Piece) × (rest : List Piece) × (ts ≡ us ++ t ∷ rest) × ((us ≡ []) ⊎ IsViablePrefix (Or S' (Unless c R')) us) × IsViablePrefix (Or S' (Unless c R')) (us ++ t ∷ [])
       × ((more : List Piece) → length (us ++ t ∷ more) ≤ n → choose c p r (us ++ t ∷ more) ≡ Err (Deep (suc (length more))))
   deepens ts k fits e = elim (which (c ts)) [
     | inl is ↦
@@ -107,5 +107,5 @@ module _ {B : Type 0} (n : ℕ) (Stop : Option Piece → Type 0) (c : List Piece
         (us, t, rest, cut, maybe_goes us (t ∷ rest) is' g, opens us rest t is' o, λ more all. no (us ++ t ∷ more) (deep_r us rest more t here is') ∙ again more all)
   ]
 
-  pub right_unless : Right n Stop (Or S (Unless c R)) (Or S' (Unless c R')) (choose c p r)
+  pub right_unless : ReadsRule n Stop (Or S (Unless c R)) (Or S' (Unless c R')) (choose c p r)
   right_unless = record { wider = wide; ended = right_r.ended; sound = sound; complete = complete; refuses = refuses; deepens = deepens }

@@ -1,16 +1,16 @@
 -- Declarations and whole modules of each form, over blocks and statements: what is read, and which tokens open a nesting.
 use Rattle.std.proofs.Common.{ℕ, Bool}
-use Rattle.evo_combinators.specs.Laws.{Grammar_of}
+use Rattle.evo_combinators.specs.Laws.{GrammarOf}
 use Rattle.evo_tree.specs.declared.scope.Scope.{Scope}
 use Rattle.evo_tree.specs.declared.module.Form.{Form}
 use Rattle.evo_tree.specs.declared.module.Form.TheVariants as form
-use Rattle.evo_tree.specs.Declarations.{IsDeclaration, Declaration_of, Member_kind}
+use Rattle.evo_tree.specs.Declarations.{IsDeclaration, DeclarationOf, MemberKind}
 use Rattle.evo_tree.specs.Modules.{Parts}
-use Rattle.evo_parse_expr.proofs.Nesting.{Nests}
+use Rattle.evo_parse_expr.proofs.Nesting.{ReadsInner}
 use Rattle.evo_parse_stmt.specs.Read.{later}
 use Rattle.evo_parse_decl.specs.Read.{top_declaration}
 use Rattle.evo_parse_decl.specs.ReadModules.{parts}
-use Rattle.evo_parse_decl.specs.Closed.{Block_at, Stmt_at, block_at, stmt_at, member_at}
+use Rattle.evo_parse_decl.specs.Closed.{BlockAt, StmtAt, block_at, stmt_at, member_at}
 use Rattle.evo_parse_decl.proofs.Concrete.{blocks}
 use Rattle.evo_parse_decl.proofs.Top.{nest_top, nest_in_braces}
 use Rattle.evo_parse_decl.proofs.ModuleParts.{End, library_grammar, interface_grammar, nest_library, nest_interface}
@@ -18,22 +18,22 @@ use Rattle.evo_parse_decl.proofs.ClientParts.{client_grammar, nest_client}
 
 -- ---- declarations
 
-pub nest_declaration : (interface : Bool) (d n : ℕ) → Nests d n (IsDeclaration Block_at interface d) (top_declaration block_at interface d)
-nest_declaration = nest_top Block_at block_at blocks
+pub nest_declaration : (interface : Bool) (d n : ℕ) → ReadsInner d n (IsDeclaration BlockAt interface d) (top_declaration block_at interface d)
+nest_declaration = nest_top BlockAt block_at blocks
 
-pub nest_member : (interface : Bool) (s : Scope) (d n : ℕ) → Nests d n (Declaration_of s d (Member_kind Block_at interface s d)) (member_at interface s d)
-nest_member = nest_in_braces Block_at block_at blocks
+pub nest_member : (interface : Bool) (s : Scope) (d n : ℕ) → ReadsInner d n (DeclarationOf s d (MemberKind BlockAt interface s d)) (member_at interface s d)
+nest_member = nest_in_braces BlockAt block_at blocks
 
 -- ---- modules
 
-pub module_grammar : (f : Form) → Grammar_of End (λ d. Parts Block_at Stmt_at f d) (λ d. parts block_at stmt_at f d)
+pub module_grammar : (f : Form) → GrammarOf End (λ d. Parts BlockAt StmtAt f d) (λ d. parts block_at stmt_at f d)
 unfolding later
-module_grammar (form.Library n) = library_grammar Block_at block_at blocks Stmt_at stmt_at n
-module_grammar form.Interface = interface_grammar Block_at block_at blocks Stmt_at stmt_at
+module_grammar (form.Library n) = library_grammar BlockAt block_at blocks StmtAt stmt_at n
+module_grammar form.Interface = interface_grammar BlockAt block_at blocks StmtAt stmt_at
 module_grammar form.Client = client_grammar
 
-pub nest_module : (f : Form) (d n : ℕ) → Nests d n (Parts Block_at Stmt_at f d) (parts block_at stmt_at f d)
+pub nest_module : (f : Form) (d n : ℕ) → ReadsInner d n (Parts BlockAt StmtAt f d) (parts block_at stmt_at f d)
 unfolding later
-nest_module (form.Library n) = nest_library Block_at block_at blocks Stmt_at stmt_at n
-nest_module form.Interface = nest_interface Block_at block_at blocks Stmt_at stmt_at
+nest_module (form.Library n) = nest_library BlockAt block_at blocks StmtAt stmt_at n
+nest_module form.Interface = nest_interface BlockAt block_at blocks StmtAt stmt_at
 nest_module form.Client = nest_client

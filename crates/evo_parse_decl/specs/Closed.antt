@@ -11,15 +11,15 @@ use Rattle.evo_parse_stmt.specs.Read.{block, stmt, later}
 use Rattle.evo_parse_decl.specs.Read.{declaration_of, member_kind}
 
 -- a block, by how much nesting may open, and whether it calls initialisers
-abbrev pub Block_at : ℕ → Bool → Rule Block
-Block_at d inits = IsBlock inits d
+abbrev pub BlockAt : ℕ → Bool → Rule Block
+BlockAt d inits = IsBlock inits d
 
 abbrev pub block_at : ℕ → Bool → Reader Block
 block_at d inits = block inits d
 
 -- a statement that stands behind others, by how much nesting may open
-abbrev pub Stmt_at : ℕ → Rule Stmt
-Stmt_at d = Later (IsStmt false d)
+abbrev pub StmtAt : ℕ → Rule Stmt
+StmtAt d = Later (IsStmt false d)
 
 abbrev pub stmt_at : ℕ → Reader Stmt
 stmt_at d = later (stmt false d)

@@ -7,14 +7,14 @@ ghost use Rattle.evo_tree.specs.Declarations.{IsDeclaration};
 ghost use Rattle.evo_tree.specs.declared.module.Form.{Form};
 ghost use Rattle.evo_tree.specs.declared.module.ModulePart.{ModulePart};
 ghost use Rattle.evo_tree.specs.Modules.{Parts};
-ghost use Rattle.evo_parse_decl.specs.Closed.{Block_at, Stmt_at};
+ghost use Rattle.evo_parse_decl.specs.Closed.{BlockAt, StmtAt};
 
 /// Tokens spell at most one declaration at the top level, whatever the nesting.
 pub fn one_declaration()
-    ensures { (interface : Bool) (d e : ℕ) (us : List Piece) (a b : List Decl) → IsDeclaration Block_at interface d us a → IsDeclaration Block_at interface e us b → a ≡ b }
+    ensures { (interface : Bool) (d e : ℕ) (us : List Piece) (a b : List Decl) → IsDeclaration BlockAt interface d us a → IsDeclaration BlockAt interface e us b → a ≡ b }
 {}
 
 /// Tokens spell the parts of at most one module of a form, whatever the nesting.
 pub fn one_module()
-    ensures { (f : Form) (d e : ℕ) (us : List Piece) (a b : List ModulePart) → Parts Block_at Stmt_at f d us a → Parts Block_at Stmt_at f e us b → a ≡ b }
+    ensures { (f : Form) (d e : ℕ) (us : List Piece) (a b : List ModulePart) → Parts BlockAt StmtAt f d us a → Parts BlockAt StmtAt f e us b → a ≡ b }
 {}

@@ -18,7 +18,7 @@ use Rattle.evo_tree.specs.Terminals.{keyword_terminal, operator_terminal}
 use Rattle.evo_tree.specs.Pieces.{Piece, pieces, mark, identifier, integer, string, negative, sign, call}
 use Rattle.evo_tree.specs.Expressions.{infix_by, IsExpr}
 use Rattle.evo_parse_expr.specs.Read.{chain_of, pair_of, labelled, listed_arguments, closed_arguments, rest_of_arguments, arguments, called, member, rest_of_group, rest_of_super, magnitude, named, implicit, later_primary, primary, links, post, unary_of, unary, expr}
-use Rattle.evo_parse_expr.proofs.Right.{right_expr}
+use Rattle.evo_parse_expr.proofs.ReadsRule.{right_expr}
 
 -- what is read to the end is spelled
 spelled : (d : ℕ) (us : List Piece) (x : Expr) → ◌≡◌ {A = Outcome Piece Expr} (expr d us) (Ok (x, [])) → IsExpr d us x

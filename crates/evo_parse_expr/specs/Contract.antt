@@ -2,7 +2,7 @@
 use Rattle.std.specs.Prelude.{◌≡◌, ℕ, List, drop, Option, Some, None}
 use Rattle.evo_base.specs.declared.place.Place.{Place}
 use Rattle.evo_base.specs.declared.token.Token.{Token}
-use Rattle.evo_lex.specs.Cut.{end_of}
+use Rattle.evo_lex.specs.Tokenization.{end_of}
 use Rattle.evo_combinators.specs.Laws.{first}
 use Rattle.evo_combinators.specs.Contract as contract
 use Rattle.evo_tree.specs.declared.expression.Expr.{Expr}

@@ -2,6 +2,6 @@ pub mod Contract
 pub mod Fault
 pub mod Laws
 pub mod Levels
-pub mod Nests
+pub mod ReadsInner
 pub mod Read
-pub mod Turns
+pub mod AtDepth

@@ -6,8 +6,8 @@ ghost use Rattle.evo_tree.specs.Expressions.{chain, members};
 ghost use Rattle.evo_tree.specs.Pieces.{mark};
 ghost use Rattle.evo_tree.specs.declared.terminal.Terminal.TheVariants.{Comma, Dot};
 ghost use Rattle.evo_parse_expr.specs.Read.{chain_of};
-ghost use Rattle.evo_parse_expr.specs.Turns as spec;
-ghost use Rattle.evo_parse_expr.specs.Nests.{Nests, expr_of};
+ghost use Rattle.evo_parse_expr.specs.AtDepth as spec;
+ghost use Rattle.evo_parse_expr.specs.ReadsInner.{ReadsInner, expr_of};
 
 use crate::cursor::Cursor;
 use crate::lexeme::Level;
@@ -69,7 +69,7 @@ pub struct Grammar<F> {
 impl<F: Fn(Global, &mut Cursor<'_>, u32, bool) -> Result<Expr, ReadError>> Grammar<F> {
     /// An expression in parentheses.
     fn inner(&self, tokens: &mut Cursor<'_>) -> Result<Expr, ReadError>
-        requires nests { Nests self.now.depth (F.pre self.now.expr) (F.post self.now.expr) }
+        requires nests { ReadsInner self.now.depth (F.pre self.now.expr) (F.post self.now.expr) }
         requires open { 0 < self.now.depth }
         ensures { Reads (spec.inner_of self.now.depth tokens.old) result tokens.new }
     {
@@ -78,7 +78,7 @@ impl<F: Fn(Global, &mut Cursor<'_>, u32, bool) -> Result<Expr, ReadError>> Gramm
 
     /// What follows a sign.
     fn under(&self, tokens: &mut Cursor<'_>) -> Result<Expr, ReadError>
-        requires nests { Nests self.now.depth (F.pre self.now.expr) (F.post self.now.expr) }
+        requires nests { ReadsInner self.now.depth (F.pre self.now.expr) (F.post self.now.expr) }
         requires open { 0 < self.now.depth }
         ensures { Reads (spec.operand_of self.now.depth tokens.old) result tokens.new }
     {
@@ -87,7 +87,7 @@ impl<F: Fn(Global, &mut Cursor<'_>, u32, bool) -> Result<Expr, ReadError>> Gramm
 
     #[tactic(auto, unfolding(crate::specs::Read::labelled))]
     fn labelled(&self, tokens: &mut Cursor<'_>) -> Result<Argument, ReadError>
-        requires nests { Nests self.now.depth (F.pre self.now.expr) (F.post self.now.expr) }
+        requires nests { ReadsInner self.now.depth (F.pre self.now.expr) (F.post self.now.expr) }
         requires open { 0 < self.now.depth }
         ensures { Reads (spec.labelled_at self.now.depth tokens.old) result tokens.new }
     {
@@ -98,7 +98,7 @@ impl<F: Fn(Global, &mut Cursor<'_>, u32, bool) -> Result<Expr, ReadError>> Gramm
     }
 
     fn argument(&self, tokens: &mut Cursor<'_>) -> Result<Argument, ReadError>
-        requires nests { Nests self.now.depth (F.pre self.now.expr) (F.post self.now.expr) }
+        requires nests { ReadsInner self.now.depth (F.pre self.now.expr) (F.post self.now.expr) }
         requires open { 0 < self.now.depth }
         ensures { Reads (spec.argument_at self.now.depth tokens.old) result tokens.new }
     {
@@ -110,7 +110,7 @@ impl<F: Fn(Global, &mut Cursor<'_>, u32, bool) -> Result<Expr, ReadError>> Gramm
     }
 
     fn further_arguments(&self, tokens: &mut Cursor<'_>) -> Result<Items<Argument>, ReadError>
-        requires nests { Nests self.now.depth (F.pre self.now.expr) (F.post self.now.expr) }
+        requires nests { ReadsInner self.now.depth (F.pre self.now.expr) (F.post self.now.expr) }
         requires open { 0 < self.now.depth }
         ensures { Reads (many (mark Comma) (spec.argument_reader self.now.depth) tokens.old) result tokens.new }
     {
@@ -126,7 +126,7 @@ impl<F: Fn(Global, &mut Cursor<'_>, u32, bool) -> Result<Expr, ReadError>> Gramm
 
     #[tactic(auto, unfolding(crate::specs::Read::listed_arguments))]
     fn listed_arguments(&self, tokens: &mut Cursor<'_>) -> Result<Items<Argument>, ReadError>
-        requires nests { Nests self.now.depth (F.pre self.now.expr) (F.post self.now.expr) }
+        requires nests { ReadsInner self.now.depth (F.pre self.now.expr) (F.post self.now.expr) }
         requires open { 0 < self.now.depth }
         ensures { Reads (spec.listed_at self.now.depth tokens.old) result tokens.new }
     {
@@ -137,7 +137,7 @@ impl<F: Fn(Global, &mut Cursor<'_>, u32, bool) -> Result<Expr, ReadError>> Gramm
 
     #[tactic(auto, unfolding(crate::specs::Read::closed_arguments))]
     fn closed_arguments(&self, tokens: &mut Cursor<'_>) -> Result<Items<Argument>, ReadError>
-        requires nests { Nests self.now.depth (F.pre self.now.expr) (F.post self.now.expr) }
+        requires nests { ReadsInner self.now.depth (F.pre self.now.expr) (F.post self.now.expr) }
         requires open { 0 < self.now.depth }
         ensures { Reads (spec.closed_at self.now.depth tokens.old) result tokens.new }
     {
@@ -148,7 +148,7 @@ impl<F: Fn(Global, &mut Cursor<'_>, u32, bool) -> Result<Expr, ReadError>> Gramm
 
     #[tactic(auto, unfolding(crate::specs::Read::rest_of_arguments))]
     fn rest_of_arguments(&self, tokens: &mut Cursor<'_>) -> Result<Items<Argument>, ReadError>
-        requires nests { Nests self.now.depth (F.pre self.now.expr) (F.post self.now.expr) }
+        requires nests { ReadsInner self.now.depth (F.pre self.now.expr) (F.post self.now.expr) }
         requires open { 0 < self.now.depth }
         ensures { Reads (spec.rest_of_arguments_at self.now.depth tokens.old) result tokens.new }
     {
@@ -160,7 +160,7 @@ impl<F: Fn(Global, &mut Cursor<'_>, u32, bool) -> Result<Expr, ReadError>> Gramm
 
     #[tactic(auto, unfolding(crate::specs::Read::arguments))]
     fn arguments(&self, tokens: &mut Cursor<'_>) -> Result<Option<Items<Argument>>, ReadError>
-        requires { Nests self.now.depth (F.pre self.now.expr) (F.post self.now.expr) }
+        requires { ReadsInner self.now.depth (F.pre self.now.expr) (F.post self.now.expr) }
         ensures { Reads (spec.arguments_at self.now.depth tokens.old) result tokens.new }
     {
         let left = tokens.left();
@@ -175,7 +175,7 @@ impl<F: Fn(Global, &mut Cursor<'_>, u32, bool) -> Result<Expr, ReadError>> Gramm
 
     #[tactic(auto, unfolding(crate::specs::Read::called))]
     fn called(&self, tokens: &mut Cursor<'_>) -> Result<Items<Argument>, ReadError>
-        requires { Nests self.now.depth (F.pre self.now.expr) (F.post self.now.expr) }
+        requires { ReadsInner self.now.depth (F.pre self.now.expr) (F.post self.now.expr) }
         ensures { Reads (spec.called_at self.now.depth tokens.old) result tokens.new }
     {
         let left = tokens.left();
@@ -190,7 +190,7 @@ impl<F: Fn(Global, &mut Cursor<'_>, u32, bool) -> Result<Expr, ReadError>> Gramm
 
     #[tactic(auto, unfolding(crate::specs::Read::member))]
     fn member(&self, tokens: &mut Cursor<'_>) -> Result<Member, ReadError>
-        requires { Nests self.now.depth (F.pre self.now.expr) (F.post self.now.expr) }
+        requires { ReadsInner self.now.depth (F.pre self.now.expr) (F.post self.now.expr) }
         ensures { Reads (spec.member_at self.now.depth tokens.old) result tokens.new }
     {
         let name = tokens.expect_identifier(self.alloc)?;
@@ -200,7 +200,7 @@ impl<F: Fn(Global, &mut Cursor<'_>, u32, bool) -> Result<Expr, ReadError>> Gramm
 
     #[tactic(auto, unfolding(crate::specs::Read::rest_of_group))]
     fn rest_of_group(&self, tokens: &mut Cursor<'_>, place: Place) -> Result<Expr, ReadError>
-        requires nests { Nests self.now.depth (F.pre self.now.expr) (F.post self.now.expr) }
+        requires nests { ReadsInner self.now.depth (F.pre self.now.expr) (F.post self.now.expr) }
         requires open { 0 < self.now.depth }
         ensures { Reads (spec.rest_of_group_at self.now.depth place tokens.old) result tokens.new }
     {
@@ -211,7 +211,7 @@ impl<F: Fn(Global, &mut Cursor<'_>, u32, bool) -> Result<Expr, ReadError>> Gramm
 
     #[tactic(auto, unfolding(crate::specs::Read::rest_of_super))]
     fn rest_of_super(&self, tokens: &mut Cursor<'_>, place: Place) -> Result<Expr, ReadError>
-        requires { Nests self.now.depth (F.pre self.now.expr) (F.post self.now.expr) }
+        requires { ReadsInner self.now.depth (F.pre self.now.expr) (F.post self.now.expr) }
         ensures { Reads (spec.rest_of_super_at self.now.depth place tokens.old) result tokens.new }
     {
         tokens.expect_mark(Terminal::Dot)?;
@@ -230,7 +230,7 @@ impl<F: Fn(Global, &mut Cursor<'_>, u32, bool) -> Result<Expr, ReadError>> Gramm
 
     #[tactic(auto, unfolding(crate::specs::Read::named))]
     fn named(&self, tokens: &mut Cursor<'_>, name: Identifier) -> Result<Expr, ReadError>
-        requires { Nests self.now.depth (F.pre self.now.expr) (F.post self.now.expr) }
+        requires { ReadsInner self.now.depth (F.pre self.now.expr) (F.post self.now.expr) }
         ensures { Reads (spec.named_at self.now.depth name tokens.old) result tokens.new }
     {
         let arguments = self.arguments(tokens)?;
@@ -239,7 +239,7 @@ impl<F: Fn(Global, &mut Cursor<'_>, u32, bool) -> Result<Expr, ReadError>> Gramm
 
     #[tactic(auto, unfolding(crate::specs::Read::implicit))]
     fn implicit(&self, tokens: &mut Cursor<'_>, place: Place) -> Result<Expr, ReadError>
-        requires { Nests self.now.depth (F.pre self.now.expr) (F.post self.now.expr) }
+        requires { ReadsInner self.now.depth (F.pre self.now.expr) (F.post self.now.expr) }
         ensures { Reads (spec.implicit_at self.now.depth place tokens.old) result tokens.new }
     {
         let (name, arguments) = self.member(tokens)?;
@@ -248,7 +248,7 @@ impl<F: Fn(Global, &mut Cursor<'_>, u32, bool) -> Result<Expr, ReadError>> Gramm
 
     #[tactic(auto, unfolding(crate::specs::Read::later_primary))]
     fn later_primary(&self, tokens: &mut Cursor<'_>) -> Result<Expr, ReadError>
-        requires { Nests self.now.depth (F.pre self.now.expr) (F.post self.now.expr) }
+        requires { ReadsInner self.now.depth (F.pre self.now.expr) (F.post self.now.expr) }
         ensures { Reads (spec.later_primary_at self.now.depth tokens.old) result tokens.new }
     {
         if let Some(place) = tokens.mark(Terminal::True) {
@@ -275,7 +275,7 @@ impl<F: Fn(Global, &mut Cursor<'_>, u32, bool) -> Result<Expr, ReadError>> Gramm
 
     #[tactic(auto, unfolding(crate::specs::Read::primary))]
     fn primary(&self, tokens: &mut Cursor<'_>) -> Result<Expr, ReadError>
-        requires { Nests self.now.depth (F.pre self.now.expr) (F.post self.now.expr) }
+        requires { ReadsInner self.now.depth (F.pre self.now.expr) (F.post self.now.expr) }
         ensures { Reads (spec.primary_at self.now.depth tokens.old) result tokens.new }
     {
         if let Some(name) = tokens.identifier(self.alloc)? {
@@ -300,7 +300,7 @@ impl<F: Fn(Global, &mut Cursor<'_>, u32, bool) -> Result<Expr, ReadError>> Gramm
     }
 
     fn dotted(&self, tokens: &mut Cursor<'_>) -> Result<Items<Member>, ReadError>
-        requires { Nests self.now.depth (F.pre self.now.expr) (F.post self.now.expr) }
+        requires { ReadsInner self.now.depth (F.pre self.now.expr) (F.post self.now.expr) }
         ensures { Reads (many (mark Dot) (spec.member_reader self.now.depth) tokens.old) result tokens.new }
     {
         let mut found = Items::new(self.alloc);
@@ -315,7 +315,7 @@ impl<F: Fn(Global, &mut Cursor<'_>, u32, bool) -> Result<Expr, ReadError>> Gramm
 
     #[tactic(auto, unfolding(crate::specs::Read::links))]
     fn links(&self, tokens: &mut Cursor<'_>, first: Expr) -> Result<Expr, ReadError>
-        requires { Nests self.now.depth (F.pre self.now.expr) (F.post self.now.expr) }
+        requires { ReadsInner self.now.depth (F.pre self.now.expr) (F.post self.now.expr) }
         ensures { Reads (spec.links_at self.now.depth first tokens.old) result tokens.new }
     {
         let members = self.dotted(tokens)?;
@@ -324,7 +324,7 @@ impl<F: Fn(Global, &mut Cursor<'_>, u32, bool) -> Result<Expr, ReadError>> Gramm
 
     #[tactic(auto, unfolding(crate::specs::Read::post))]
     fn post(&self, tokens: &mut Cursor<'_>) -> Result<Expr, ReadError>
-        requires { Nests self.now.depth (F.pre self.now.expr) (F.post self.now.expr) }
+        requires { ReadsInner self.now.depth (F.pre self.now.expr) (F.post self.now.expr) }
         ensures { Reads (spec.post_at self.now.depth tokens.old) result tokens.new }
     {
         let first = self.primary(tokens)?;
@@ -333,7 +333,7 @@ impl<F: Fn(Global, &mut Cursor<'_>, u32, bool) -> Result<Expr, ReadError>> Gramm
 
     #[tactic(auto, unfolding(crate::specs::Read::unary_of))]
     fn unary(&self, tokens: &mut Cursor<'_>) -> Result<Expr, ReadError>
-        requires { Nests self.now.depth (F.pre self.now.expr) (F.post self.now.expr) }
+        requires { ReadsInner self.now.depth (F.pre self.now.expr) (F.post self.now.expr) }
         ensures { Reads (spec.unary_at self.now.depth tokens.old) result tokens.new }
     {
         let left = tokens.left();
@@ -349,7 +349,7 @@ impl<F: Fn(Global, &mut Cursor<'_>, u32, bool) -> Result<Expr, ReadError>> Gramm
 
     #[cycle(levels)]
     fn operand(&self, tokens: &mut Cursor<'_>, level: Level) -> Result<Expr, ReadError>
-        requires { Nests self.now.depth (F.pre self.now.expr) (F.post self.now.expr) }
+        requires { ReadsInner self.now.depth (F.pre self.now.expr) (F.post self.now.expr) }
         ensures { Reads (spec.operands_of (spec.unary_at self.now.depth) level tokens.old) result tokens.new }
     {
         match level {
@@ -363,7 +363,7 @@ impl<F: Fn(Global, &mut Cursor<'_>, u32, bool) -> Result<Expr, ReadError>> Gramm
 
     #[cycle(levels)]
     fn turns(&self, tokens: &mut Cursor<'_>, level: Level) -> Result<Items<Operand>, ReadError>
-        requires { Nests self.now.depth (F.pre self.now.expr) (F.post self.now.expr) }
+        requires { ReadsInner self.now.depth (F.pre self.now.expr) (F.post self.now.expr) }
         ensures { Reads (many (spec.infix_of level) (spec.turn_reader (spec.operands_of (spec.unary_at self.now.depth) level)) tokens.old) result tokens.new }
     {
         let mut found = Items::new(self.alloc);
@@ -380,7 +380,7 @@ impl<F: Fn(Global, &mut Cursor<'_>, u32, bool) -> Result<Expr, ReadError>> Gramm
     #[cycle(levels)]
     #[tactic(auto, unfolding(crate::specs::Read::chain_of))]
     fn chain(&self, tokens: &mut Cursor<'_>, level: Level) -> Result<Expr, ReadError>
-        requires { Nests self.now.depth (F.pre self.now.expr) (F.post self.now.expr) }
+        requires { ReadsInner self.now.depth (F.pre self.now.expr) (F.post self.now.expr) }
         ensures { Reads (chain_of (spec.infix_of level) (spec.operands_of (spec.unary_at self.now.depth) level) tokens.old) result tokens.new }
     {
         let first = self.operand(tokens, level)?;
@@ -391,7 +391,7 @@ impl<F: Fn(Global, &mut Cursor<'_>, u32, bool) -> Result<Expr, ReadError>> Gramm
     #[cycle(levels)]
     #[tactic(auto, unfolding(crate::specs::Read::pair_of))]
     fn pair(&self, tokens: &mut Cursor<'_>) -> Result<Expr, ReadError>
-        requires { Nests self.now.depth (F.pre self.now.expr) (F.post self.now.expr) }
+        requires { ReadsInner self.now.depth (F.pre self.now.expr) (F.post self.now.expr) }
         ensures { Reads (spec.comparison_level (spec.unary_at self.now.depth) tokens.old) result tokens.new }
     {
         let first = self.operand(tokens, Level::Comparison)?;
@@ -406,7 +406,7 @@ impl<F: Fn(Global, &mut Cursor<'_>, u32, bool) -> Result<Expr, ReadError>> Gramm
 
     #[cycle(levels)]
     fn level(&self, tokens: &mut Cursor<'_>, level: Level) -> Result<Expr, ReadError>
-        requires { Nests self.now.depth (F.pre self.now.expr) (F.post self.now.expr) }
+        requires { ReadsInner self.now.depth (F.pre self.now.expr) (F.post self.now.expr) }
         ensures { Reads (spec.level_of (spec.unary_at self.now.depth) level tokens.old) result tokens.new }
     {
         match level {

@@ -3,12 +3,12 @@ use Rattle.std.specs.Prelude.{◌||◌}
 use Rattle.std.specs.Option.{is_some}
 use Rattle.std.proofs.Common.{◌≡◌, ℕ, zero, suc, ◌-◌, Bool, true, false, List, [], ◌∷◌, ◌++◌, length, Option, Some, None, Err, refl, sym, ◌∙◌, ap, subst, arith, ◌⊎◌, inl, inr, append_assoc, length-append}
 use Rattle.evo_combinators.specs.declared.Fault.TheVariants.{Grammar}
-use Rattle.evo_combinators.specs.Rule.{Only, Nothing, Led, One, Or, Then, Many, Some_of}
+use Rattle.evo_combinators.specs.Rule.{Empty, Fail, TokenThen, One, Or, Then, Many, SomeOf}
 use Rattle.evo_combinators.specs.Reader.{Outcome, ◌>>=◌, and_then, pure, refuse, alt, one, bar, many, lead, paired, branch}
 use Rattle.evo_combinators.specs.Guard.{Run, run}
-use Rattle.evo_combinators.specs.Laws.{Begins, Takes, of_first, Deeper, Same, Right, Skips, first}
+use Rattle.evo_combinators.specs.Laws.{Begins, Takes, of_first, GrowsWithNesting, Same, ReadsRule, Skips, first}
 use Rattle.evo_combinators.proofs.Laws.{right_pure, right_nothing, right_then_by, right_alt_by, right_bar, right_same, right_ext, right_stop, right_map, right_many, right_one, of_map}
-use Rattle.evo_combinators.proofs.Deeper.{same_refl, deeper_then, deeper_alt, deeper_bar, deeper_many}
+use Rattle.evo_combinators.proofs.GrowsWithNesting.{same_refl, deeper_then, deeper_alt, deeper_bar, deeper_many}
 use Rattle.evo_combinators.proofs.GuardDeeper.{deeper_run}
 use Rattle.evo_combinators.proofs.RunLaws.{right_run}
 use Rattle.evo_combinators.proofs.Entered.{refused_within}
@@ -21,7 +21,7 @@ use Rattle.evo_tree.specs.Expressions.{Rule, Nested}
 use Rattle.evo_tree.specs.Declarations.{only_if, Separated}
 use Rattle.evo_parse_expr.specs.Read.{Reader, opens}
 use Rattle.evo_parse_expr.proofs.Tests.{opening_is}
-use Rattle.evo_parse_expr.proofs.Nesting.{May, Nests, Under, nest_opens}
+use Rattle.evo_parse_expr.proofs.Nesting.{May, ReadsInner, Under, nest_opens}
 use Rattle.evo_combinators.proofs.Nesting.{nest_pure, nest_refuse, nest_by, nest_then, nest_quiet, nest_led, nest_many}
 use Rattle.evo_combinators.proofs.NestingTries.{nest_made}
 use Rattle.evo_combinators.proofs.NestingRuns.{nest_held, nest_ext, nest_one, nest_run}
@@ -64,43 +64,43 @@ opening ns f brackets numbers u a takes = either (is_terminal t.OpenParenthesis 
     either false false c is = absurd (cc)
 
 -- what is spelled where some nesting may open is spelled where it does
-held_some : {A : Type 0} (S : ℕ → Rule A) → ((d : ℕ) → Some_of (S (suc d))) → (d : ℕ) → May d → Some_of (S d)
+held_some : {A : Type 0} (S : ℕ → Rule A) → ((d : ℕ) → SomeOf (S (suc d))) → (d : ℕ) → May d → SomeOf (S d)
 held_some S some zero held = absurd held
 held_some S some (suc d) held = some d
 
 -- The reader reads the rule at each nesting and grows with it. `front`: what is spelled, and what may follow it, begin with F.
 -- `nest`: with each token that opens a nesting a spelling goes on, and no other token opens one too many.
 pub record Chooses {A : Type 0} (F St : Set) (S : ℕ → Rule A) (p : ℕ → Reader A) : Type 0 where
-  pub right : (d n : ℕ) → Right n (In St) (S d) (S (suc d)) (p d)
-  pub deeper : (d : ℕ) → Deeper (p d) (p (suc d))
+  pub right : (d n : ℕ) → ReadsRule n (In St) (S d) (S (suc d)) (p d)
+  pub deeper : (d : ℕ) → GrowsWithNesting (p d) (p (suc d))
   pub front : (d : ℕ) (us rest : List Piece) (a : A) → S d us a → In St (first rest) → In F (first (us ++ rest))
-  pub nest : (d n : ℕ) → Nests d n (S d) (p d)
+  pub nest : (d n : ℕ) → ReadsInner d n (S d) (p d)
 
 -- and something is spelled with some nesting
 pub record Parses {A : Type 0} (F St : Set) (S : ℕ → Rule A) (p : ℕ → Reader A) : Type 0 where
   pub chooses : Chooses F St S p
-  pub some : (d : ℕ) → Some_of (S (suc d))
+  pub some : (d : ℕ) → SomeOf (S (suc d))
 
-front_of_nil : {A : Type 0} (St : Set) (a b : A) (us rest : List Piece) → Only a us b → In St (first rest) → In St (first (us ++ rest))
+front_of_nil : {A : Type 0} (St : Set) (a b : A) (us rest : List Piece) → Empty a us b → In St (first rest) → In St (first (us ++ rest))
 front_of_nil St a b us rest s stop = subst (λ x. In St (first (x ++ rest))) (sym s.0) stop
 
-pub parses_pure : {A : Type 0} {St : Set} → contains St 100 ≡ true → (a : A) → Parses St St (λ _. Only a) (λ _. pure a)
+pub parses_pure : {A : Type 0} {St : Set} → contains St 100 ≡ true → (a : A) → Parses St St (λ _. Empty a) (λ _. pure a)
 parses_pure {A} {St} ended a = record {
   chooses = record {
     right = λ d n. right_pure n (In St) ended a;
     deeper = λ d. same_refl (pure a);
     front = λ d us rest b s stop. front_of_nil St a b us rest s stop;
-    nest = λ d n. nest_pure (May d) opens_nesting n (Only a) a;
+    nest = λ d n. nest_pure (May d) opens_nesting n (Empty a) a;
   };
   some = λ d. some_only a;
 }
 
-pub chooses_nothing : {A : Type 0} {F St : Set} → contains St 100 ≡ true → Chooses {A = A} F St (λ _. Nothing) (λ _. refuse)
+pub chooses_nothing : {A : Type 0} {F St : Set} → contains St 100 ≡ true → Chooses {A = A} F St (λ _. Fail) (λ _. refuse)
 chooses_nothing {A} {F} {St} ended = record {
   right = λ d n. right_nothing n (In St) ended;
   deeper = λ d. same_refl refuse;
   front = λ d us rest b s stop. absurd s;
-  nest = λ d n. nest_refuse (May d) opens_nesting n Nothing;
+  nest = λ d n. nest_refuse (May d) opens_nesting n Fail;
 }
 
 -- weaker sets
@@ -141,7 +141,7 @@ parses_then {A} {B} {F} {G} {St} {St'} {S} {R} {p} {q} follow fits next = record
 }
 
 pub parses_map : {A B : Type 0} {F St : Set} {S : ℕ → Rule A} {p : ℕ → Reader A} (g : A → B) → Parses F St S p →
-    Parses F St (λ d. Then (S d) (λ a. Only (g a))) (λ d. p d >>= (λ a. pure (g a)))
+    Parses F St (λ d. Then (S d) (λ a. Empty (g a))) (λ d. p d >>= (λ a. pure (g a)))
 parses_map {A} {B} {F} {St} {S} {p} g fits = record {
   chooses = record {
     right = λ d n. right_map n (In St) (S d) (S (suc d)) (p d) g (fits.chooses.right d n);
@@ -149,7 +149,7 @@ parses_map {A} {B} {F} {St} {S} {p} g fits = record {
     front = λ d us rest b s stop. let (a, s', is) = of_map (S d) g us b s in fits.chooses.front d us rest a s' stop;
     nest = λ d n. nest_made (May d) opens_nesting n (S d) (p d) g (fits.chooses.nest d n);
   };
-  some = λ d. some_then (S (suc d)) (λ a. Only (g a)) (fits.some d) (λ a. some_only (g a));
+  some = λ d. some_then (S (suc d)) (λ a. Empty (g a)) (fits.some d) (λ a. some_only (g a));
 }
 
 -- by the first token
@@ -159,13 +159,13 @@ skips ns H St R r f test apart other d us rest b s stop = λ u a is takes.
     none_holds H (number_of u.terminal) ns apart (test.numbers u a takes) (subst (In H) is (other.front d us rest b s stop))
 
 led_front : {A B : Type 0} (ns : List ℕ) (F : Set) (f : Piece → Option A) (S : A → Rule B) → Test ns f → included (these ns) F ≡ true →
-    (us rest : List Piece) (b : B) → Led f S us b → In F (first (us ++ rest))
+    (us rest : List Piece) (b : B) → TokenThen f S us b → In F (first (us ++ rest))
 led_front ns F f S test begun us rest b (u, a, vs, cut, takes, s) = subst (λ x. In F (first (x ++ rest))) (sym cut) (into (these ns) F begun (Some u) (test.numbers u a takes))
 
 module _ {A B : Type 0} {ns : List ℕ} {F H G St : Set} {S : ℕ → A → Rule B} {R : ℕ → Rule B} {q : ℕ → A → Reader B} {r : ℕ → Reader B} {f : Piece → Option A}
     (calm : none_in Opening ns ≡ true) (apart : none_in H ns ≡ true) (begun : included (these ns) F ≡ true) (wide : included H F ≡ true) (test : Test ns f)
     (fits : (a : A) → Parses G St (λ d. S d a) (λ d. q d a)) (other : Chooses H St R r) where
-  pub chooses_alt : Chooses F St (λ d. Or (Led f (S d)) (R d)) (λ d. alt f (q d) (r d))
+  pub chooses_alt : Chooses F St (λ d. Or (TokenThen f (S d)) (R d)) (λ d. alt f (q d) (r d))
   chooses_alt = record {
     right = λ d n. right_alt_by n (In St) f (S d) (S (suc d)) (R d) (R (suc d)) (q d) (r d) (λ a. (fits a).chooses.right d (n - 1)) (other.right d n) (λ a. (fits a).some d) (skips ns H St R r f test apart other d);
     deeper = λ d. deeper_alt f (q d) (q (suc d)) (r d) (r (suc d)) (λ a. (fits a).chooses.deeper d) (other.deeper d);
@@ -176,7 +176,7 @@ module _ {A B : Type 0} {ns : List ℕ} {F H G St : Set} {S : ℕ → A → Rule
     nest = λ d n. nest_quiet (May d) opens_nesting n f (S d) (R d) (q d) (r d) (quiet ns f calm test.numbers) (λ a. (fits a).chooses.nest d (n - 1)) (other.nest d n);
   }
 
-  pub parses_alt : Parses F St (λ d. Or (Led f (S d)) (R d)) (λ d. alt f (q d) (r d))
+  pub parses_alt : Parses F St (λ d. Or (TokenThen f (S d)) (R d)) (λ d. alt f (q d) (r d))
   parses_alt = record {
     chooses = chooses_alt;
     some = λ d. let (us, b, s) = some_led f (S (suc d)) test.piece test.value test.taken ((fits test.value).some d) in (us, b, inl s);
@@ -187,19 +187,19 @@ led_read : {A B : Type 0} (o : Option (A × List Piece)) (q : A → Reader B) (n
 led_read (Some x) q n = refl
 led_read None q n = refl
 
-no_nothing : {B : Type 0} (S : Rule B) (us : List Piece) (b : B) → Or S Nothing us b → S us b
+no_nothing : {B : Type 0} (S : Rule B) (us : List Piece) (b : B) → Or S Fail us b → S us b
 no_nothing S us b (inl s) = s
 no_nothing S us b (inr none) = absurd none
 
 module _ {A B : Type 0} {ns : List ℕ} {F G St : Set} {S : ℕ → A → Rule B} {q : ℕ → A → Reader B} {f : Piece → Option A}
     (calm : none_in Opening ns ≡ true) (begun : included (these ns) F ≡ true) (ended : contains St 100 ≡ true) (test : Test ns f) (fits : (a : A) → Parses G St (λ d. S d a) (λ d. q d a)) where
-  pub parses_led : Parses F St (λ d. Led f (S d)) (λ d. one f >>= q d)
+  pub parses_led : Parses F St (λ d. TokenThen f (S d)) (λ d. one f >>= q d)
   parses_led = record {
     chooses = record {
-      right = λ d n. right_ext n (In St) (Led f (S d)) (Led f (S (suc d))) (alt f (q d) refuse) (one f >>= q d) (λ ts all. led_read (lead f ts) (q d) (length ts))
-          (right_same n (In St) (Or (Led f (S d)) Nothing) (Or (Led f (S (suc d))) Nothing) (Led f (S d)) (Led f (S (suc d))) (alt f (q d) refuse)
-          (no_nothing (Led f (S d))) (λ us b s. inl s) (no_nothing (Led f (S (suc d))))
-          (right_alt_by n (In St) f (S d) (S (suc d)) Nothing Nothing (q d) refuse (λ a. (fits a).chooses.right d (n - 1)) (right_nothing n (In St) ended) (λ a. (fits a).some d) (λ us rest b s stop. absurd s)));
+      right = λ d n. right_ext n (In St) (TokenThen f (S d)) (TokenThen f (S (suc d))) (alt f (q d) refuse) (one f >>= q d) (λ ts all. led_read (lead f ts) (q d) (length ts))
+          (right_same n (In St) (Or (TokenThen f (S d)) Fail) (Or (TokenThen f (S (suc d))) Fail) (TokenThen f (S d)) (TokenThen f (S (suc d))) (alt f (q d) refuse)
+          (no_nothing (TokenThen f (S d))) (λ us b s. inl s) (no_nothing (TokenThen f (S (suc d))))
+          (right_alt_by n (In St) f (S d) (S (suc d)) Fail Fail (q d) refuse (λ a. (fits a).chooses.right d (n - 1)) (right_nothing n (In St) ended) (λ a. (fits a).some d) (λ us rest b s stop. absurd s)));
       deeper = λ d. deeper_then (one f) (one f) (q d) (q (suc d)) (same_refl (one f)) (λ a. (fits a).chooses.deeper d);
       front = λ d us rest b s stop. led_front ns F f (S d) test begun us rest b s;
       nest = λ d n. nest_led (May d) opens_nesting n f (S d) (q d) (quiet ns f calm test.numbers) (λ a. (fits a).chooses.nest d n);
@@ -213,24 +213,24 @@ parses_one {A} {ns} {F} {St} {f} calm begun ended test = record {
   chooses = record {
     right = λ d n. right_one n (In St) ended f;
     deeper = λ d. same_refl (one f);
-    front = λ d us rest b s stop. led_front ns F f (λ a. Only a) test begun us rest b s;
+    front = λ d us rest b s stop. led_front ns F f (λ a. Empty a) test begun us rest b s;
     nest = λ d n. nest_one (May d) opens_nesting n f (quiet ns f calm test.numbers);
   };
-  some = λ d. some_led f (λ a. Only a) test.piece test.value test.taken (some_only test.value);
+  some = λ d. some_led f (λ a. Empty a) test.piece test.value test.taken (some_only test.value);
 }
 
 -- a token that opens a nesting
 module _ {A B : Type 0} (ns : List ℕ) (F H G St : Set) (S : ℕ → A → Rule B) (R : ℕ → Rule B) (q : ℕ → A → Reader B) (r : ℕ → Reader B) (f : Piece → Option A)
     (brackets : included (these ns) Brackets ≡ true) (apart : none_in H ns ≡ true) (begun : included (these ns) F ≡ true) (wide : included H F ≡ true) (test : Test ns f)
-    (least : (a : A) → Some_of (S 1 a)) (fits : (a : A) → Parses G St (λ d. S (suc d) a) (λ d. q (suc d) a)) (other : Chooses H St R r) where
-  right_opens : (d n : ℕ) → Right n (In St) (Or (Nested d f (S d)) (R d)) (Or (Nested (suc d) f (S (suc d))) (R (suc d))) (opens d f (q d) (r d))
-  right_opens zero n = right_same n (In St) (R 0) (Or (Led f (S 1)) (R 1)) (Or Nothing (R 0)) (Or (Led f (S 1)) (R 1)) (bar f (r 0))
+    (least : (a : A) → SomeOf (S 1 a)) (fits : (a : A) → Parses G St (λ d. S (suc d) a) (λ d. q (suc d) a)) (other : Chooses H St R r) where
+  right_opens : (d n : ℕ) → ReadsRule n (In St) (Or (Nested d f (S d)) (R d)) (Or (Nested (suc d) f (S (suc d))) (R (suc d))) (opens d f (q d) (r d))
+  right_opens zero n = right_same n (In St) (R 0) (Or (TokenThen f (S 1)) (R 1)) (Or Fail (R 0)) (Or (TokenThen f (S 1)) (R 1)) (bar f (r 0))
       (λ us b s. inr s) (λ us b s. elim s [ inl none ↦ absurd none | inr s' ↦ s' ]) (λ us b s. s)
       (right_bar n (In St) f (S 1) (R 0) (R 1) (r 0) (other.right 0 n) least (skips ns H St R r f test apart other 0))
   right_opens (suc d) n = right_alt_by n (In St) f (S (suc d)) (S (suc (suc d))) (R (suc d)) (R (suc (suc d))) (q (suc d)) (r (suc d))
       (λ a. (fits a).chooses.right d (n - 1)) (other.right (suc d) n) (λ a. (fits a).some d) (skips ns H St R r f test apart other (suc d))
 
-  deeper_opens : (d : ℕ) → Deeper (opens d f (q d) (r d)) (opens (suc d) f (q (suc d)) (r (suc d)))
+  deeper_opens : (d : ℕ) → GrowsWithNesting (opens d f (q d) (r d)) (opens (suc d) f (q (suc d)) (r (suc d)))
   deeper_opens zero = deeper_bar f (q 1) (q 1) (r 0) (r 1) (λ a. same_refl (q 1 a)) (other.deeper 0)
   deeper_opens (suc d) = deeper_alt f (q (suc d)) (q (suc (suc d))) (r (suc d)) (r (suc (suc d))) (λ a. (fits a).chooses.deeper d) (other.deeper (suc d))
 
@@ -239,7 +239,7 @@ module _ {A B : Type 0} (ns : List ℕ) (F H G St : Set) (S : ℕ → A → Rule
   opens_front (suc d) us rest b (inl led) stop = led_front ns F f (S (suc d)) test begun us rest b led
   opens_front d us rest b (inr s) stop = into H F wide (first (us ++ rest)) (other.front d us rest b s stop)
 
-  some_at : (d : ℕ) (a : A) → Some_of (S (suc d) a)
+  some_at : (d : ℕ) (a : A) → SomeOf (S (suc d) a)
   some_at zero a = least a
   some_at (suc d) a = (fits a).some d
 
@@ -259,14 +259,14 @@ module _ {A B : Type 0} (ns : List ℕ) (F H G St : Set) (S : ℕ → A → Rule
   }
 
 pub parses_opens : {A B : Type 0} {ns : List ℕ} {F H G St : Set} {S : ℕ → A → Rule B} {R : ℕ → Rule B} {q : ℕ → A → Reader B} {r : ℕ → Reader B} {f : Piece → Option A} →
-    included (these ns) Brackets ≡ true → none_in H ns ≡ true → included (these ns) F ≡ true → included H F ≡ true → Test ns f → ((a : A) → Some_of (S 1 a)) →
+    included (these ns) Brackets ≡ true → none_in H ns ≡ true → included (these ns) F ≡ true → included H F ≡ true → Test ns f → ((a : A) → SomeOf (S 1 a)) →
     ((a : A) → Parses G St (λ d. S (suc d) a) (λ d. q (suc d) a)) → Chooses H St R r → Parses F St (λ d. Or (Nested d f (S d)) (R d)) (λ d. opens d f (q d) (r d))
 parses_opens {A} {B} {ns} {F} {H} {G} {St} {S} {R} {q} {r} {f} brackets apart begun wide test least fits other = opens_parses ns F H G St S R q r f brackets apart begun wide test least fits other
 
 -- any number, each behind a token
 module _ {A B : Type 0} (ns : List ℕ) (F G H St : Set) (S : ℕ → A → Rule B) (q : ℕ → A → Reader B) (f : Piece → Option A)
     (calm : none_in Opening ns ≡ true) (apart : none_in St ns ≡ true) (begun : included (these ns) F ≡ true) (wide : included St F ≡ true) (goes_on : included F H ≡ true) (ended : contains St 100 ≡ true) (test : Test ns f)
-    (least : (d : ℕ) (a : A) → Some_of (S d a)) (fits : (a : A) → Parses G H (λ d. S d a) (λ d. q d a)) where
+    (least : (d : ℕ) (a : A) → SomeOf (S d a)) (fits : (a : A) → Parses G H (λ d. S d a) (λ d. q d a)) where
   ends : (x : Option Piece) → In St x → In H x
   ends x h = into F H goes_on x (into St F wide x h)
 
@@ -294,7 +294,7 @@ module _ {A B : Type 0} (ns : List ℕ) (F G H St : Set) (S : ℕ → A → Rule
 
 pub parses_many : {A B : Type 0} {ns : List ℕ} {F G H St : Set} {S : ℕ → A → Rule B} {q : ℕ → A → Reader B} {f : Piece → Option A} →
     none_in Opening ns ≡ true → none_in St ns ≡ true → included (these ns) F ≡ true → included St F ≡ true → included F H ≡ true → contains St 100 ≡ true → Test ns f →
-    ((d : ℕ) (a : A) → Some_of (S d a)) → ((a : A) → Parses G H (λ d. S d a) (λ d. q d a)) → Parses F St (λ d. Many f (S d)) (λ d. many f (q d))
+    ((d : ℕ) (a : A) → SomeOf (S d a)) → ((a : A) → Parses G H (λ d. S d a) (λ d. q d a)) → Parses F St (λ d. Many f (S d)) (λ d. many f (q d))
 parses_many {A} {B} {ns} {F} {G} {H} {St} {S} {q} {f} calm apart begun wide goes_on ended test least fits = many_parses ns F G H St S q f calm apart begun wide goes_on ended test least fits
 
 -- ---- tokens that may stand only in some places
@@ -304,10 +304,10 @@ unfolding lead
 lead_none f [] = refl
 lead_none f (u ∷ us) = refl
 
-never_led : {A B : Type 0} (f : Piece → Option A) (S : A → Rule B) (us : List Piece) (b : B) → Led (only_if false f) S us b → ⊥
+never_led : {A B : Type 0} (f : Piece → Option A) (S : A → Rule B) (us : List Piece) (b : B) → TokenThen (only_if false f) S us b → ⊥
 never_led f S us b (u, a, vs, cut, takes, s) = cc
 
-pub never : {A B : Type 0} (f : Piece → Option A) (S : A → Rule B) (R : Rule B) (us : List Piece) (b : B) → Or (Led (only_if false f) S) R us b → R us b
+pub never : {A B : Type 0} (f : Piece → Option A) (S : A → Rule B) (R : Rule B) (us : List Piece) (b : B) → Or (TokenThen (only_if false f) S) R us b → R us b
 never f S R us b (inl led) = absurd (never_led f S us b led)
 never f S R us b (inr s) = s
 
@@ -318,30 +318,30 @@ pub same_outcomes : {A : Type 0} (o o' p p' : Outcome Piece A) → p ≡ o → p
 same_outcomes {A} o o' p p' e e' same = subst (λ x. Same x p') (sym e) (subst (λ x. Same o x) (sym e') same)
 
 chooses_never : {A B : Type 0} (F H St : Set) (S : ℕ → A → Rule B) (R : ℕ → Rule B) (q : ℕ → A → Reader B) (r : ℕ → Reader B) (f : Piece → Option A) →
-    included H F ≡ true → Chooses H St R r → Chooses F St (λ d. Or (Led (only_if false f) (S d)) (R d)) (λ d. alt (only_if false f) (q d) (r d))
+    included H F ≡ true → Chooses H St R r → Chooses F St (λ d. Or (TokenThen (only_if false f) (S d)) (R d)) (λ d. alt (only_if false f) (q d) (r d))
 chooses_never F H St S R q r f wide other = record {
-  right = λ d n. right_ext n (In St) (Or (Led (only_if false f) (S d)) (R d)) (Or (Led (only_if false f) (S (suc d))) (R (suc d))) (r d) (alt (only_if false f) (q d) (r d)) (λ ts all. skipped f (q d) (r d) ts)
-      (right_same n (In St) (R d) (R (suc d)) (Or (Led (only_if false f) (S d)) (R d)) (Or (Led (only_if false f) (S (suc d))) (R (suc d))) (r d)
+  right = λ d n. right_ext n (In St) (Or (TokenThen (only_if false f) (S d)) (R d)) (Or (TokenThen (only_if false f) (S (suc d))) (R (suc d))) (r d) (alt (only_if false f) (q d) (r d)) (λ ts all. skipped f (q d) (r d) ts)
+      (right_same n (In St) (R d) (R (suc d)) (Or (TokenThen (only_if false f) (S d)) (R d)) (Or (TokenThen (only_if false f) (S (suc d))) (R (suc d))) (r d)
       (λ us b s. inr s) (never f (S d) (R d)) (λ us b s. inr s) (other.right d n));
   deeper = λ d ts. same_outcomes (r d ts) (r (suc d) ts) _ _ (skipped f (q d) (r d) ts) (skipped f (q (suc d)) (r (suc d)) ts) (other.deeper d ts);
   front = λ d us rest b s stop. into H F wide (first (us ++ rest)) (other.front d us rest b (never f (S d) (R d) us b s) stop);
-  nest = λ d n. nest_ext (May d) opens_nesting n (Or (Led (only_if false f) (S d)) (R d)) (r d) (alt (only_if false f) (q d) (r d)) (skipped f (q d) (r d))
-      (nest_by (May d) opens_nesting n (R d) (Or (Led (only_if false f) (S d)) (R d)) (r d) (λ us b s. inr s) (other.nest d n));
+  nest = λ d n. nest_ext (May d) opens_nesting n (Or (TokenThen (only_if false f) (S d)) (R d)) (r d) (alt (only_if false f) (q d) (r d)) (skipped f (q d) (r d))
+      (nest_by (May d) opens_nesting n (R d) (Or (TokenThen (only_if false f) (S d)) (R d)) (r d) (λ us b s. inr s) (other.nest d n));
 }
 
 pub chooses_alt_if : {A B : Type 0} {ns : List ℕ} {F H G St : Set} {S : ℕ → A → Rule B} {R : ℕ → Rule B} {q : ℕ → A → Reader B} {r : ℕ → Reader B} {f : Piece → Option A} →
     none_in Opening ns ≡ true → none_in H ns ≡ true → included (these ns) F ≡ true → included H F ≡ true → (b : Bool) → Test ns f →
-    (b ≡ true → (a : A) → Parses G St (λ d. S d a) (λ d. q d a)) → Chooses H St R r → Chooses F St (λ d. Or (Led (only_if b f) (S d)) (R d)) (λ d. alt (only_if b f) (q d) (r d))
+    (b ≡ true → (a : A) → Parses G St (λ d. S d a) (λ d. q d a)) → Chooses H St R r → Chooses F St (λ d. Or (TokenThen (only_if b f) (S d)) (R d)) (λ d. alt (only_if b f) (q d) (r d))
 chooses_alt_if {A} {B} {ns} {F} {H} {G} {St} {S} {R} {q} {r} {f} calm apart begun wide true test fits other = chooses_alt calm apart begun wide test (fits refl) other
 chooses_alt_if {A} {B} {ns} {F} {H} {G} {St} {S} {R} {q} {r} {f} calm apart begun wide false test fits other = chooses_never F H St S R q r f wide other
 
 -- or nothing
-pub parses_maybe : {A : Type 0} {F St : Set} {S : ℕ → Rule A} {p : ℕ → Reader A} {a : A} → Chooses F St (λ d. Or (S d) (Only a)) p → Parses F St (λ d. Or (S d) (Only a)) p
+pub parses_maybe : {A : Type 0} {F St : Set} {S : ℕ → Rule A} {p : ℕ → Reader A} {a : A} → Chooses F St (λ d. Or (S d) (Empty a)) p → Parses F St (λ d. Or (S d) (Empty a)) p
 parses_maybe {A} {F} {St} {S} {p} {a} fits = record { chooses = fits; some = λ d. ([], a, inr (refl, refl)) }
 
 -- one, and more behind a mark
 pub parses_separated : {A : Type 0} {F H St : Set} {S : ℕ → Rule A} {p : ℕ → Reader A} (k : Terminal) → none_in Opening (number_of k ∷ []) ≡ true → none_in St (number_of k ∷ []) ≡ true → included (these (number_of k ∷ [])) H ≡ true →
-    included St H ≡ true → contains St 100 ≡ true → Test (number_of k ∷ []) (mark k) → ((d : ℕ) → Some_of (S d)) → Parses F H S p → Parses F St (λ d. Separated k (S d)) (λ d. separated k (p d))
+    included St H ≡ true → contains St 100 ≡ true → Test (number_of k ∷ []) (mark k) → ((d : ℕ) → SomeOf (S d)) → Parses F H S p → Parses F St (λ d. Separated k (S d)) (λ d. separated k (p d))
 unfolding separated
 parses_separated {A} {F} {H} {St} {S} {p} k calm apart begun wide ended test least fits =
     parses_then (included_refl H) fits (λ x. parses_map (λ xs. x ∷ xs) (many_parses (number_of k ∷ []) H F H St (λ d _. S d) (λ d _. p d) (mark k) calm apart begun wide (included_refl H) ended test (λ d _. least d) (λ _. fits)))
@@ -364,23 +364,23 @@ module _ {A C B : Type 0} (ns ms : List ℕ) (F G H St : Set) (S : ℕ → A →
     (clash : (u : Piece) (a : A) (c : C) → f u ≡ Some a → g u ≡ Some c → ⊥) (numbers : (u : Piece) (a : A) → f u ≡ Some a → among (number_of u.terminal) ns ≡ true) (test : Test ms g)
     (calm : none_in Opening ns ≡ true) (calm_too : none_in Opening ms ≡ true) (begun : included (these ns) F ≡ true) (wide : included (these ms) F ≡ true) (ended : contains St 100 ≡ true)
     (fits : (a : A) → Parses G St (λ d. S d a) (λ d. q d a)) (other : (c : C) → Parses H St (λ d. T d c) (λ d. r d c)) where
-  second : Parses F St (λ d. Led g (T d)) (λ d. one g >>= r d)
+  second : Parses F St (λ d. TokenThen g (T d)) (λ d. one g >>= r d)
   second = parses_led calm_too wide ended test other
 
-  apart_leds : (d : ℕ) (us rest : List Piece) (b : B) → Led g (T d) us b → In St (first rest) → Skips f (us ++ rest)
+  apart_leds : (d : ℕ) (us rest : List Piece) (b : B) → TokenThen g (T d) us b → In St (first rest) → Skips f (us ++ rest)
   apart_leds d us rest b (u, c, vs, cut, takes, s) stop = λ u' a is takes'.
       let same : u ≡ u' = let eq = sym (ap (λ x. first (x ++ rest)) cut) ∙ is in cc in clash u' a c takes' (subst (λ v. g v ≡ Some c) same takes)
 
-  pub parses_leds : Parses F St (λ d. Or (Led f (S d)) (Led g (T d))) (λ d. alt f (q d) (one g >>= r d))
+  pub parses_leds : Parses F St (λ d. Or (TokenThen f (S d)) (TokenThen g (T d))) (λ d. alt f (q d) (one g >>= r d))
   parses_leds = record {
     chooses = record {
-      right = λ d n. right_alt_by n (In St) f (S d) (S (suc d)) (Led g (T d)) (Led g (T (suc d))) (q d) (one g >>= r d) (λ a. (fits a).chooses.right d (n - 1)) (second.chooses.right d n) (λ a. (fits a).some d) (apart_leds d);
+      right = λ d n. right_alt_by n (In St) f (S d) (S (suc d)) (TokenThen g (T d)) (TokenThen g (T (suc d))) (q d) (one g >>= r d) (λ a. (fits a).chooses.right d (n - 1)) (second.chooses.right d n) (λ a. (fits a).some d) (apart_leds d);
       deeper = λ d. deeper_alt f (q d) (q (suc d)) (one g >>= r d) (one g >>= r (suc d)) (λ a. (fits a).chooses.deeper d) (second.chooses.deeper d);
       front = λ d us rest b s stop. elim s [
         | inl (u, a, vs, cut, takes, s') ↦ subst (λ x. In F (first (x ++ rest))) (sym cut) (into (these ns) F begun (Some u) (numbers u a takes))
         | inr s' ↦ second.chooses.front d us rest b s' stop
       ];
-      nest = λ d n. nest_quiet (May d) opens_nesting n f (S d) (Led g (T d)) (q d) (one g >>= r d) (quiet ns f calm numbers) (λ a. (fits a).chooses.nest d (n - 1)) (second.chooses.nest d n);
+      nest = λ d n. nest_quiet (May d) opens_nesting n f (S d) (TokenThen g (T d)) (q d) (one g >>= r d) (quiet ns f calm numbers) (λ a. (fits a).chooses.nest d (n - 1)) (second.chooses.nest d n);
     };
     some = λ d. let (us, b, s) = second.some d in (us, b, inr s);
   }

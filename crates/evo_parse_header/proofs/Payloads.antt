@@ -1,7 +1,7 @@
 -- Each reader of payloads and cases reads its rule.
 use Rattle.std.proofs.Common.{◌≡◌, ℕ, suc, ◌+◌, List, [], ◌∷◌, ◌++◌, length, Option, Some, None, Ok, Err, refl, sym, ◌∙◌, ap, subst, inl, inr}
 use Rattle.evo_base.specs.declared.place.Place.{Place}
-use Rattle.evo_combinators.specs.Rule.{Only, Led, One, Or, Then, Many, Some_of}
+use Rattle.evo_combinators.specs.Rule.{Empty, TokenThen, One, Or, Then, Many, SomeOf}
 use Rattle.evo_combinators.specs.declared.Fault.TheVariants.{Grammar}
 use Rattle.evo_combinators.specs.Reader.{Outcome, and_then, ◌>>=◌, pure, alt, one, many, lead, paired, branch}
 use Rattle.evo_combinators.proofs.Laws.{of_map, to_map}
@@ -28,26 +28,26 @@ abbrev Anything : Set
 Anything = but []
 
 -- a payload by its first token
-abbrev By_name : Identifier → Rule Payload
-By_name n = Or (Led (mark t.Colon) (λ _. Then IsType (λ type. Only (payload (Some n) type)))) (Then (Many (mark t.Dot) (λ _. One plain_name)) (λ ns. Only (payload None (type_name (head_of n) ns))))
+abbrev ByName : Identifier → Rule Payload
+ByName n = Or (TokenThen (mark t.Colon) (λ _. Then IsType (λ type. Empty (payload (Some n) type)))) (Then (Many (mark t.Dot) (λ _. One plain_name)) (λ ns. Empty (payload None (type_name (head_of n) ns))))
 
-abbrev By_self : Rule Payload
-By_self = Led self_head (λ h. Then (Many (mark t.Dot) (λ _. One plain_name)) (λ ns. Only (payload None (type_name h ns))))
+abbrev BySelf : Rule Payload
+BySelf = TokenThen self_head (λ h. Then (Many (mark t.Dot) (λ _. One plain_name)) (λ ns. Empty (payload None (type_name h ns))))
 
-abbrev By_first : Rule Payload
-By_first = Or (Led identifier By_name) By_self
+abbrev ByFirst : Rule Payload
+ByFirst = Or (TokenThen identifier ByName) BySelf
 
 abbrev by_first : Reader Payload
 by_first = alt identifier read.rest_of_payload (one self_head >>= (λ h. many (mark t.Dot) (λ _. one plain_name) >>= (λ ns. pure (payload None (type_name h ns)))))
 
-parses_dotted : {B : Type 0} (g : List (List ℕ) → B) → Parses (but (72 ∷ [])) (but (73 ∷ 72 ∷ [])) (λ _. Then (Many (mark t.Dot) (λ _. One plain_name)) (λ ns. Only (g ns))) (λ _. many (mark t.Dot) (λ _. one plain_name) >>= (λ ns. pure (g ns)))
+parses_dotted : {B : Type 0} (g : List (List ℕ) → B) → Parses (but (72 ∷ [])) (but (73 ∷ 72 ∷ [])) (λ _. Then (Many (mark t.Dot) (λ _. One plain_name)) (λ ns. Empty (g ns))) (λ _. many (mark t.Dot) (λ _. one plain_name) >>= (λ ns. pure (g ns)))
 parses_dotted g = parses_map g (parses_many {F = but (72 ∷ [])} {H = Anything} refl refl refl refl refl refl (mark_test t.Dot) (λ d a. (parses_one {F = Anything} {St = Anything} refl refl refl plain_name_test).some 0) (λ _. parses_one {F = Anything} refl refl refl plain_name_test))
 
-parses_by_name : (n : Identifier) → Parses Anything (but (73 ∷ 72 ∷ [])) (λ _. By_name n) (λ _. read.rest_of_payload n)
+parses_by_name : (n : Identifier) → Parses Anything (but (73 ∷ 72 ∷ [])) (λ _. ByName n) (λ _. read.rest_of_payload n)
 unfolding read.rest_of_payload
 parses_by_name n = parses_alt refl refl refl refl (mark_test t.Colon) (λ _. parses_before refl refl (parses_map (payload (Some n)) parses_type)) (parses_dotted (λ ns. payload None (type_name (head_of n) ns))).chooses
 
-parses_by_first : Parses (these (0 ∷ 26 ∷ [])) (but (73 ∷ 72 ∷ [])) (λ _. By_first) (λ _. by_first)
+parses_by_first : Parses (these (0 ∷ 26 ∷ [])) (but (73 ∷ 72 ∷ [])) (λ _. ByFirst) (λ _. by_first)
 parses_by_first = parses_alt {H = these (26 ∷ [])} refl refl refl refl identifier_test parses_by_name (parses_led refl refl refl self_head_test (λ h. parses_dotted (λ ns. payload None (type_name h ns)))).chooses
 
 -- a type, from its head on
@@ -60,24 +60,24 @@ of_type us type (h, vs, ws, cut, (u, h', xs, cut', takes, (none, is)), r) =
     let (names, m, e) = of_map (Many (mark t.Dot) (λ _. One plain_name)) (type_name h) ws type r in
     (u, h, ws, names, cut ∙ ap (λ x. x ++ ws) (cut' ∙ ap (λ x. u ∷ x) none), takes ∙ ap (λ x. Some x) (sym is), m, e)
 
-to_payload : (us : List Piece) (b : Payload) → By_first us b → grammar.IsPayload us b
+to_payload : (us : List Piece) (b : Payload) → ByFirst us b → grammar.IsPayload us b
 to_payload us b (inl (u, n, vs, cut, takes, inl labelled)) = inl (u, n, vs, cut, takes, labelled)
 to_payload us b (inl (u, n, vs, cut, takes, inr r)) =
     let (ns, m, e) = of_map (Many (mark t.Dot) (λ _. One plain_name)) (λ ns. payload None (type_name (head_of n) ns)) vs b r in
-    inr (subst (Then IsType (λ type. Only (payload None type)) us) (sym e) (to_map IsType (payload None) us (type_name (head_of n) ns) (type_from us u (head_of n) vs ns cut (head_named u n takes) m)))
+    inr (subst (Then IsType (λ type. Empty (payload None type)) us) (sym e) (to_map IsType (payload None) us (type_name (head_of n) ns) (type_from us u (head_of n) vs ns cut (head_named u n takes) m)))
 to_payload us b (inr (u, h, vs, cut, takes, r)) =
     let (ns, m, e) = of_map (Many (mark t.Dot) (λ _. One plain_name)) (λ ns. payload None (type_name h ns)) vs b r in
-    inr (subst (Then IsType (λ type. Only (payload None type)) us) (sym e) (to_map IsType (payload None) us (type_name h ns) (type_from us u h vs ns cut (head_self u h takes) m)))
+    inr (subst (Then IsType (λ type. Empty (payload None type)) us) (sym e) (to_map IsType (payload None) us (type_name h ns) (type_from us u h vs ns cut (head_self u h takes) m)))
 
-of_payload : (us : List Piece) (b : Payload) → grammar.IsPayload us b → By_first us b
+of_payload : (us : List Piece) (b : Payload) → grammar.IsPayload us b → ByFirst us b
 of_payload us b (inl (u, n, vs, cut, takes, labelled)) = inl (u, n, vs, cut, takes, inl labelled)
 of_payload us b (inr r) =
     let (type, s, e) = of_map IsType (payload None) us b r in
     let (u, h, vs, names, cut, takes, m, is) = of_type us type s in
     let spelled = λ (g : Place × List ℕ). to_map (Many (mark t.Dot) (λ _. One plain_name)) (λ ns. payload None (type_name g ns)) vs names m in
     let value : payload None (type_name h names) ≡ b = sym (e ∙ ap (payload None) is) in
-    subst (By_first us) value (elim (head_cases u h takes) [
-      | inl (n, named, same) ↦ inl (u, n, vs, cut, named, inr (subst (λ x. Then (Many (mark t.Dot) (λ _. One plain_name)) (λ ns. Only (payload None (type_name (head_of n) ns))) vs (payload None (type_name x names))) (sym same) (spelled (head_of n))))
+    subst (ByFirst us) value (elim (head_cases u h takes) [
+      | inl (n, named, same) ↦ inl (u, n, vs, cut, named, inr (subst (λ x. Then (Many (mark t.Dot) (λ _. One plain_name)) (λ ns. Empty (payload None (type_name (head_of n) ns))) vs (payload None (type_name x names))) (sym same) (spelled (head_of n))))
       | inr self ↦ inr (u, h, vs, cut, self, spelled h)
     ])
 
@@ -110,19 +110,19 @@ payload_reads (u ∷ us) = go (identifier u) refl
 pub parses_payload : Parses (these (0 ∷ 26 ∷ [])) (but (73 ∷ 72 ∷ [])) (λ _. grammar.IsPayload) (λ _. read.payload_of)
 parses_payload = parses_same (λ d. to_payload) (λ d. of_payload) (λ d. payload_reads) parses_by_first
 
-parses_payloads : Parses Anything (but (66 ∷ [])) (λ d. Or (Nested d (mark t.OpenParenthesis) (λ _. grammar.Rest_of_payloads)) (Only [])) (λ d. read.payloads d)
+parses_payloads : Parses Anything (but (66 ∷ [])) (λ d. Or (Nested d (mark t.OpenParenthesis) (λ _. grammar.PayloadsTail)) (Empty [])) (λ d. read.payloads d)
 unfolding read.payloads read.rest_of_payloads
 parses_payloads =
     let inside = parses_then {G = these (67 ∷ [])} {St = these (67 ∷ 100 ∷ [])} {St' = but (66 ∷ [])} refl (parses_separated t.Comma refl refl refl refl refl (mark_test t.Comma) parses_payload.some parses_payload) (λ ps. parses_close ps refl refl) in
     parses_opens refl refl refl refl (mark_test t.OpenParenthesis) (λ _. inside.some 0) (λ _. inside) (parses_pure refl []).chooses
 
-some_case : (d : ℕ) → Some_of (grammar.IsCase d)
+some_case : (d : ℕ) → SomeOf (grammar.IsCase d)
 some_case d = some_led identifier _ identifier_test.piece identifier_test.value identifier_test.taken ([], k.Case identifier_test.value [], to_map _ (λ ps. k.Case identifier_test.value ps) [] [] (inr (refl, refl)))
 
 pub parses_case : Parses (these (0 ∷ [])) (but (66 ∷ [])) (λ d. grammar.IsCase d) (λ d. read.case_of d)
 unfolding read.case_of
 parses_case = parses_led refl refl refl identifier_test (λ n. parses_map (λ ps. k.Case n ps) parses_payloads)
 
-pub parses_cases : (p : Place) → Parses (these (0 ∷ [])) (but (66 ∷ 70 ∷ [])) (λ d. grammar.Rest_of_cases d p) (λ d. read.rest_of_cases d p)
+pub parses_cases : (p : Place) → Parses (these (0 ∷ [])) (but (66 ∷ 70 ∷ [])) (λ d. grammar.CasesTail d p) (λ d. read.rest_of_cases d p)
 unfolding read.rest_of_cases
 parses_cases p = parses_map (λ cases. (p, cases)) (parses_separated t.Comma refl refl refl refl refl (mark_test t.Comma) some_case parses_case)

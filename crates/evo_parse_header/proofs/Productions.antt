@@ -2,11 +2,11 @@
 use Rattle.std.proofs.Common.{◌≡◌, ℕ, ◌+◌, Bool, true, List, [], ◌∷◌, ◌++◌, Option, Some, None, refl, sym, ◌∙◌, ap, subst}
 use Rattle.std.specs.Prelude.{not, codes}
 use Rattle.evo_base.specs.declared.place.Place.{Place}
-use Rattle.evo_combinators.specs.Rule.{Only, Led, One, Or, Then}
+use Rattle.evo_combinators.specs.Rule.{Empty, TokenThen, One, Or, Then}
 use Rattle.evo_combinators.specs.Reader.{◌>>=◌, pure, refuse, alt, one, lead, paired, branch}
 use Rattle.evo_combinators.specs.Laws.{Takes, first}
 use Rattle.evo_combinators.proofs.Laws.{right_one}
-use Rattle.evo_combinators.proofs.Deeper.{same_refl}
+use Rattle.evo_combinators.proofs.GrowsWithNesting.{same_refl}
 use Rattle.std.specs.Option.{is_some}
 use Rattle.evo_tree.specs.declared.declaration.Modifier.{Modifier}
 use Rattle.evo_tree.specs.declared.name.Identifier.{Identifier}
@@ -65,7 +65,7 @@ parses_generics s = parses_maybe (chooses_alt_if refl refl refl refl (not (is_pr
     (λ gs. parses_led {F = these (51 ∷ [])} refl refl refl (mark_test t.Greater) (λ _. parses_pure refl gs))) (parses_pure refl []).chooses)
 
 pub parses_rest_of_requirement : (a : TypeName) → Parses (these (72 ∷ 47 ∷ [])) (but (73 ∷ 58 ∷ []))
-    (λ _. Or (Led (mark t.Colon) (λ _. Then grammar.Protocols (λ ps. Only (requirement.Conforms a ps)))) (Led (grammar.infix_mark t.EqualEqual) (λ p. Then IsType (λ b. Only (requirement.Same a p b))))) (λ _. read.rest_of_requirement a)
+    (λ _. Or (TokenThen (mark t.Colon) (λ _. Then grammar.Protocols (λ ps. Empty (requirement.Conforms a ps)))) (TokenThen (grammar.infix_mark t.EqualEqual) (λ p. Then IsType (λ b. Empty (requirement.Same a p b))))) (λ _. read.rest_of_requirement a)
 unfolding read.rest_of_requirement
 parses_rest_of_requirement a = parses_alt {H = these (47 ∷ [])} refl refl refl refl (mark_test t.Colon) (λ _. parses_map (requirement.Conforms a) parses_protocols)
     (parses_led refl refl refl (infix_test t.EqualEqual) (λ p. parses_before refl refl (parses_map (requirement.Same a p) parses_type))).chooses
@@ -79,12 +79,12 @@ unfolding read.requirements
 parses_requirements s = parses_maybe (chooses_alt_if refl refl refl refl (not (is_protocol s)) (mark_test t.Where)
     (λ _ _. parses_separated t.Comma refl refl refl refl refl (mark_test t.Comma) parses_requirement.some parses_requirement) (parses_pure refl []).chooses)
 
-parses_rest_of_parameter : (p : Place) (l : ParameterLabel) (n : Identifier) → Parses (these (72 ∷ [])) (but (73 ∷ [])) (λ _. grammar.Rest_of_parameter p l n) (λ _. read.rest_of_parameter p l n)
+parses_rest_of_parameter : (p : Place) (l : ParameterLabel) (n : Identifier) → Parses (these (72 ∷ [])) (but (73 ∷ [])) (λ _. grammar.ParameterTail p l n) (λ _. read.rest_of_parameter p l n)
 unfolding read.rest_of_parameter
 parses_rest_of_parameter p l n = parses_led refl refl refl (mark_test t.Colon) (λ _. parses_map (parameter p l n) parses_type)
 
 parses_labelled : (m : Identifier) → Parses (these (0 ∷ 72 ∷ [])) (but (73 ∷ []))
-    (λ _. Or (Led identifier (λ n. grammar.Rest_of_parameter m.place (label.Written m) n)) (grammar.Rest_of_parameter m.place label.Same m)) (λ _. read.labelled_parameter m)
+    (λ _. Or (TokenThen identifier (λ n. grammar.ParameterTail m.place (label.Written m) n)) (grammar.ParameterTail m.place label.Same m)) (λ _. read.labelled_parameter m)
 unfolding read.labelled_parameter
 parses_labelled m = parses_alt refl refl refl refl identifier_test (λ n. parses_rest_of_parameter m.place (label.Written m) n) (parses_rest_of_parameter m.place label.Same m).chooses
 
@@ -94,7 +94,7 @@ parses_parameter = parses_alt {H = these (0 ∷ [])} refl refl refl refl (mark_t
     (parses_led refl refl refl identifier_test parses_labelled).chooses
 
 -- a mark that closes
-pub parses_close : {B : Type 0} {F St : Set} (b : B) → included (these (67 ∷ [])) F ≡ true → contains St 100 ≡ true → Parses F St (λ _. Led (mark t.CloseParenthesis) (λ _. Only b)) (λ _. one (mark t.CloseParenthesis) >>= (λ _. pure b))
+pub parses_close : {B : Type 0} {F St : Set} (b : B) → included (these (67 ∷ [])) F ≡ true → contains St 100 ≡ true → Parses F St (λ _. TokenThen (mark t.CloseParenthesis) (λ _. Empty b)) (λ _. one (mark t.CloseParenthesis) >>= (λ _. pure b))
 parses_close {B} {F} {St} b begun ended = parses_led refl begun ended (mark_test t.CloseParenthesis) (λ _. parses_pure ended b)
 
 pub parses_parameters : Parses (these (66 ∷ [])) Anything (λ d. grammar.Parameters d) (λ d. read.parameters d)
@@ -133,16 +133,16 @@ parses_availability = parses_alt {H = these (0 ∷ [])} refl refl refl refl (mar
     (parses_led refl refl refl (word_test (codes "macOS")) (λ _. parses_then {G = Anything} refl parses_number
     (λ n. parses_then refl parses_minor (λ m. parses_led {F = these (70 ∷ [])} refl refl refl (mark_test t.Comma) (λ _. parses_led {F = Anything} refl refl refl (mark_test t.Star) (λ _. parses_pure refl (introduced n m))))))).chooses
 
-parses_rest_of_available : (p : Place) → Parses (these (66 ∷ [])) Anything (λ d. grammar.Rest_of_available d p) (λ d. read.rest_of_available d p)
+parses_rest_of_available : (p : Place) → Parses (these (66 ∷ [])) Anything (λ d. grammar.AvailableTail d p) (λ d. read.rest_of_available d p)
 unfolding read.rest_of_available
 parses_rest_of_available p =
     let inside = parses_then {G = Anything} refl parses_availability (λ a. parses_close {F = Anything} {St = Anything} (attribute p (attr.Available a)) refl refl) in
     parses_opens {H = these []} refl refl refl refl (mark_test t.OpenParenthesis) (λ _. inside.some 0) (λ _. inside) (chooses_nothing refl)
 
 parses_behind_at : (attrs : List Attr) (p : Place) → Parses (these (0 ∷ [])) Anything
-    (λ d. Or (Led (grammar.attribute_word attrs) (λ kind. Only (attribute p kind))) (Led (word (codes "available")) (λ _. grammar.Rest_of_available d p)))
+    (λ d. Or (TokenThen (grammar.attribute_word attrs) (λ kind. Empty (attribute p kind))) (TokenThen (word (codes "available")) (λ _. grammar.AvailableTail d p)))
     (λ d. alt (grammar.attribute_word attrs) (λ kind. pure (attribute p kind)) (one (word (codes "available")) >>= (λ _. read.rest_of_available d p)))
-parses_behind_at attrs p = parses_leds (0 ∷ []) (0 ∷ []) (these (0 ∷ [])) Anything _ Anything (λ _ kind. Only (attribute p kind)) (λ d _. grammar.Rest_of_available d p) (λ _ kind. pure (attribute p kind)) (λ d _. read.rest_of_available d p)
+parses_behind_at attrs p = parses_leds (0 ∷ []) (0 ∷ []) (these (0 ∷ [])) Anything _ Anything (λ _ kind. Empty (attribute p kind)) (λ d _. grammar.AvailableTail d p) (λ _ kind. pure (attribute p kind)) (λ d _. read.rest_of_available d p)
     (grammar.attribute_word attrs) (word (codes "available")) (attribute_clash attrs) (attribute_numbers attrs) (word_test (codes "available")) refl refl refl refl refl (λ kind. parses_pure refl (attribute p kind)) (λ _. parses_rest_of_available p)
 
 pub parses_attribute : (attrs : List Attr) → Parses (these (74 ∷ [])) Anything (λ d. grammar.Attribute d attrs) (λ d. read.attribute_at d attrs)
@@ -154,13 +154,13 @@ unfolding read.attribute_at
 takes_attribute d attrs u is = takes_led (mark t.At) (parses_behind_at attrs) d u u.place (is_marked t.At u is)
 
 -- what a kind or a modifier begins with
-abbrev pub Kind_words : List ℕ
-Kind_words = 5 ∷ 6 ∷ 7 ∷ 8 ∷ 9 ∷ 10 ∷ 11 ∷ 12 ∷ 13 ∷ 14 ∷ 15 ∷ 16 ∷ []
+abbrev pub KindWords : List ℕ
+KindWords = 5 ∷ 6 ∷ 7 ∷ 8 ∷ 9 ∷ 10 ∷ 11 ∷ 12 ∷ 13 ∷ 14 ∷ 15 ∷ 16 ∷ []
 
 abbrev pub Words : List ℕ
 Words = 17 ∷ 18 ∷ 19 ∷ 20 ∷ 21 ∷ 22 ∷ 23 ∷ 24 ∷ []
 
-pub parses_attributes : Parses (these (74 ∷ 100 ∷ Words ++ Kind_words)) (these (100 ∷ Words ++ Kind_words)) (λ d. grammar.Attributes d) (λ d. read.attributes d)
+pub parses_attributes : Parses (these (74 ∷ 100 ∷ Words ++ KindWords)) (these (100 ∷ Words ++ KindWords)) (λ d. grammar.Attributes d) (λ d. read.attributes d)
 unfolding read.attributes
 parses_attributes = parses_run _ _ Anything _ (74 ∷ []) (λ _. is_terminal t.At) (λ d attrs. grammar.Attribute d attrs) (λ d attrs. read.attribute_at d attrs) (λ attrs a. attrs ++ a ∷ [])
     refl refl refl refl refl (λ attrs. (parses_attribute attrs).chooses)
@@ -191,7 +191,7 @@ takes_modifier d ms u is us bad =
     let (m, takes) = is_modifier_word ms u is in
     let read = sym (ap (λ o. branch (paired o us) pure (refuse (u ∷ us))) takes) ∙ bad in cc
 
-pub parses_modifiers : Parses (these (100 ∷ Words ++ Kind_words)) (these (100 ∷ Kind_words)) (λ _. grammar.Modifiers) (λ _. read.modifiers)
+pub parses_modifiers : Parses (these (100 ∷ Words ++ KindWords)) (these (100 ∷ KindWords)) (λ _. grammar.Modifiers) (λ _. read.modifiers)
 unfolding read.modifiers
 parses_modifiers = parses_run _ _ Anything _ Words read.is_modifier (λ _ ms. One (grammar.modifier_word ms)) (λ _ ms. one (grammar.modifier_word ms)) (λ ms m. ms ++ m ∷ [])
     refl refl refl refl refl chooses_modifier

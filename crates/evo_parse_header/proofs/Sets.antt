@@ -111,5 +111,5 @@ included_refl (but ms) = all_among ms ms (λ n h. h)
 abbrev pub Ends : Set
 Ends = but (65 ∷ 38 ∷ 73 ∷ 70 ∷ 58 ∷ 68 ∷ 72 ∷ 59 ∷ 66 ∷ [])
 
-abbrev pub Ends_or_brace : Set
-Ends_or_brace = but (65 ∷ 38 ∷ 73 ∷ 70 ∷ 58 ∷ 72 ∷ 59 ∷ 66 ∷ [])
+abbrev pub EndsOrBrace : Set
+EndsOrBrace = but (65 ∷ 38 ∷ 73 ∷ 70 ∷ 58 ∷ 72 ∷ 59 ∷ 66 ∷ [])

@@ -4,9 +4,9 @@ use Rattle.std.proofs.Common.{sym, ◌∙◌, ap, inl, inr, arith}
 use Rattle.std.proofs.lemmas.Bool.Decides.{Decides-eqb}
 use Rattle.evo_base.specs.declared.place.Place.{Place}
 use Rattle.evo_combinators.specs.declared.Fault.TheVariants.{Grammar}
-use Rattle.evo_combinators.specs.Rule.{Nothing, Some_of}
+use Rattle.evo_combinators.specs.Rule.{Fail, SomeOf}
 use Rattle.evo_combinators.specs.Reader.{refuse}
-use Rattle.evo_combinators.specs.Laws.{Begins, Grammar_of}
+use Rattle.evo_combinators.specs.Laws.{Begins, GrammarOf}
 use Rattle.evo_combinators.proofs.Laws.{begins_or, begins_as}
 use Rattle.evo_combinators.proofs.Sequences.{Anything}
 use Rattle.evo_tree.specs.declared.expression.PrefixOperator.{PrefixOperator}
@@ -17,20 +17,20 @@ use Rattle.evo_tree.specs.declared.terminal.Terminal.TheVariants as t
 use Rattle.evo_tree.specs.declared.terminal.Role.TheVariants as role
 use Rattle.evo_tree.specs.Terminals.{number_of}
 use Rattle.evo_tree.specs.Pieces.{Piece, is_terminal, has_role, role_number, sign}
-use Rattle.evo_tree.specs.Expressions.{Rule, Nested, Levels, Unary_of, Post, Unary, IsExpr}
+use Rattle.evo_tree.specs.Expressions.{Rule, Nested, Levels, UnaryOf, Postfix, Unary, IsExpr}
 use Rattle.evo_tree.specs.Statements.{is_later, Later, IsCall, IsStmt, IsBlock, IsStatement}
 use Rattle.evo_parse_expr.specs.Read.{Reader, unary, expr}
 use Rattle.evo_parse_expr.proofs.Tests.{Stop, First, first_opens, sign_opens, sign_role, opens_primary, same_terminal}
-use Rattle.evo_parse_expr.proofs.Right.{Ready, begins_nested, begins_post, begins_levels, some_expr, begins_expr, named_expr, some_unary, right_unary, right_expr, right_called, some_call}
+use Rattle.evo_parse_expr.proofs.ReadsRule.{Ready, begins_nested, begins_post, begins_levels, some_expr, begins_expr, named_expr, some_unary, right_unary, right_expr, right_called, some_call}
 use Rattle.evo_parse_expr.proofs.More.{expr_grammar, deeper_called, deeper_unary}
 use Rattle.evo_parse_stmt.specs.Read.{call, stmt, block, statement}
 use Rattle.evo_parse_stmt.proofs.Tests.{is_terminal_number, number_is_terminal, a_piece, a_place, mark_takes}
 use Rattle.evo_combinators.proofs.Nesting.{Nest}
 use Rattle.evo_tree.specs.Pieces.{opens_nesting}
-use Rattle.evo_parse_expr.proofs.Nesting.{Nests, nest_expr, nest_unary, nest_called}
+use Rattle.evo_parse_expr.proofs.Nesting.{ReadsInner, nest_expr, nest_unary, nest_called}
 use Rattle.evo_parse_stmt.proofs.Fits.{Fits, lift}
-use Rattle.evo_parse_stmt.proofs.Follows.{After_stmt, Fresh}
-use Rattle.evo_parse_stmt.proofs.Right.{Statement, law_later, fits_block}
+use Rattle.evo_parse_stmt.proofs.Follows.{AfterStmt, Fresh}
+use Rattle.evo_parse_stmt.proofs.ReadsRule.{Statement, law_later, fits_block}
 use Rattle.evo_parse_stmt.proofs.Productions.{tail_stmt}
 use Rattle.evo_parse_stmt.proofs.Blocked.{blocked}
 
@@ -49,12 +49,12 @@ first_fresh p (inl h) = record {
 }
 first_fresh p (inr h) = record { opens = first_opens p (inr h); no_minus = λ between is. omega (arith, infix_number p between, h.1) }
 
-fresh_unary_of : (d : ℕ) (I O : Rule Expr) → Begins Fresh (Unary_of d I O)
-fresh_unary_of d I O = begins_or Fresh (Nested d sign _) (Post d I O) (begins_nested d Fresh sign _ sign_fresh) (begins_as First Fresh (Post d I O) first_fresh (begins_post d I O))
+fresh_unary_of : (d : ℕ) (I O : Rule Expr) → Begins Fresh (UnaryOf d I O)
+fresh_unary_of d I O = begins_or Fresh (Nested d sign _) (Postfix d I O) (begins_nested d Fresh sign _ sign_fresh) (begins_as First Fresh (Postfix d I O) first_fresh (begins_post d I O))
 
 fresh_unary : (d : ℕ) → Begins Fresh (Unary d)
 unfolding Unary
-fresh_unary zero = fresh_unary_of 0 Nothing Nothing
+fresh_unary zero = fresh_unary_of 0 Fail Fail
 fresh_unary (suc d) = fresh_unary_of (suc d) (Levels (Unary d)) (Unary d)
 
 fresh_expr : (d : ℕ) → Begins Fresh (IsExpr d)
@@ -66,18 +66,18 @@ fits_expr d = record { law = record { right = right_expr d; deeper = expr_gramma
 ready : (d : ℕ) → Ready (IsExpr d) (IsExpr (suc d)) (expr d)
 ready d = record { right = right_expr d; some = some_expr d; begins = begins_expr d; named = named_expr d }
 
-lifted : {A : Type 0} {S : Rule A} {p : Reader A} (d n : ℕ) → Nests d n S p → Nest n (Unit {0}) opens_nesting S p
+lifted : {A : Type 0} {S : Rule A} {p : Reader A} (d n : ℕ) → ReadsInner d n S p → Nest n (Unit {0}) opens_nesting S p
 lifted d n nest = record { keeps = λ us x more fits is le. (tt, (nest.keeps us x more fits is le).1); deep = nest.deep }
 
 fits_call : (d : ℕ) → Fits d (Stop 0) (IsCall d) (IsCall (suc d)) (call d) (call (suc d))
 fits_call zero = record {
   law = record {
-    right = right_called 0 Nothing (IsExpr 0) Nothing (Unary 0) refuse refuse (some_expr 0) (some_unary 0);
+    right = right_called 0 Fail (IsExpr 0) Fail (Unary 0) refuse refuse (some_expr 0) (some_unary 0);
     deeper = deeper_called 0 refuse (expr 0) refuse (unary 0) tt tt;
-    nest = nest_called 0 Nothing (IsExpr 0) Nothing (Unary 0) refuse refuse (some_expr 0) (some_unary 0) tt (λ n. tt);
+    nest = nest_called 0 Fail (IsExpr 0) Fail (Unary 0) refuse refuse (some_expr 0) (some_unary 0) tt (λ n. tt);
   };
   here = λ held. absurd held;
-  some = some_call 0 Nothing (IsExpr 0) Nothing (Unary 0) refuse refuse (some_expr 0) (some_unary 0);
+  some = some_call 0 Fail (IsExpr 0) Fail (Unary 0) refuse refuse (some_expr 0) (some_unary 0);
 }
 fits_call (suc d) = record {
   law = record {
@@ -99,7 +99,7 @@ unfolding IsStmt a_break
 some_stmt inits zero = inr (inr (inr (inr (inr (inl (a_break, a_place, [], refl, mark_takes t.Break, (refl, refl)))))))
 some_stmt inits (suc d) = inr (inr (inr (inr (inr (inl (a_break, a_place, [], refl, mark_takes t.Break, (refl, refl)))))))
 
-some_later : (inits : Bool) (d : ℕ) → Some_of (Later (IsStmt inits d))
+some_later : (inits : Bool) (d : ℕ) → SomeOf (Later (IsStmt inits d))
 unfolding is_later a_break
 some_later inits d = (a_break ∷ [], s.Break a_place, (a_break, [], refl, refl, some_stmt inits d))
 
@@ -118,7 +118,7 @@ lift_statement inits d laws = record {
 pub laws : (inits : Bool) (d : ℕ) → Statement d (IsStmt inits d) (IsStmt inits (suc d)) (stmt inits d) (stmt inits (suc d))
 unfolding IsStmt stmt
 laws inits zero = record {
-  tail = tail_stmt inits 0 (IsExpr 0) (IsExpr 1) (expr 0) (expr 1) (IsCall 0) (IsCall 1) (call 0) (call 1) Nothing (IsStmt inits 0) refuse (stmt inits 0)
+  tail = tail_stmt inits 0 (IsExpr 0) (IsExpr 1) (expr 0) (expr 1) (IsCall 0) (IsCall 1) (call 0) (call 1) Fail (IsStmt inits 0) refuse (stmt inits 0)
       (fits_expr 0) (fresh_expr 1) (fits_call 0) (a_break ∷ [], s.Break a_place, some_stmt inits 0) (own_blocked 0);
   later = some_later inits 1;
   later_here = λ held. some_later inits 0;
@@ -130,17 +130,17 @@ laws inits (suc d) = record {
   later_here = λ held. some_later inits (suc d);
 }
 
-pub stmt_grammar : (inits : Bool) → Grammar_of After_stmt (IsStmt inits) (stmt inits)
+pub stmt_grammar : (inits : Bool) → GrammarOf AfterStmt (IsStmt inits) (stmt inits)
 stmt_grammar inits = record { right = λ d. (laws inits d).tail.fits.law.right; deeper = λ d. (laws inits d).tail.fits.law.deeper }
 
 pub fits_blocks : (inits : Bool) (d : ℕ) → Fits d Anything (IsBlock inits d) (IsBlock inits (suc d)) (block inits d) (block inits (suc d))
-fits_blocks inits zero = fits_block 0 Nothing (IsStmt inits 0) refuse (stmt inits 0) (a_break ∷ [], s.Break a_place, some_stmt inits 0)
+fits_blocks inits zero = fits_block 0 Fail (IsStmt inits 0) refuse (stmt inits 0) (a_break ∷ [], s.Break a_place, some_stmt inits 0)
 fits_blocks inits (suc d) = fits_block (suc d) (IsStmt inits d) (IsStmt inits (suc d)) (stmt inits d) (stmt inits (suc d)) (lift_statement inits d (laws inits d))
 
-pub block_grammar : (inits : Bool) → Grammar_of Anything (IsBlock inits) (block inits)
+pub block_grammar : (inits : Bool) → GrammarOf Anything (IsBlock inits) (block inits)
 block_grammar inits = record { right = λ d. (fits_blocks inits d).law.right; deeper = λ d. (fits_blocks inits d).law.deeper }
 
-pub statement_grammar : (first : Bool) → Grammar_of After_stmt (IsStatement first) (statement first)
+pub statement_grammar : (first : Bool) → GrammarOf AfterStmt (IsStatement first) (statement first)
 statement_grammar true = stmt_grammar false
 statement_grammar false = record {
   right = λ d. (law_later d (IsStmt false d) (IsStmt false (suc d)) (stmt false d) (stmt false (suc d)) (laws false d)).right;
@@ -149,12 +149,12 @@ statement_grammar false = record {
 
 -- ---- which tokens open a nesting
 
-pub nest_stmt : (inits : Bool) (d n : ℕ) → Nests d n (IsStmt inits d) (stmt inits d)
+pub nest_stmt : (inits : Bool) (d n : ℕ) → ReadsInner d n (IsStmt inits d) (stmt inits d)
 nest_stmt inits d = (laws inits d).tail.fits.law.nest
 
-pub nest_block : (inits : Bool) (d n : ℕ) → Nests d n (IsBlock inits d) (block inits d)
+pub nest_block : (inits : Bool) (d n : ℕ) → ReadsInner d n (IsBlock inits d) (block inits d)
 nest_block inits d = (fits_blocks inits d).law.nest
 
-pub nest_statement : (first : Bool) (d n : ℕ) → Nests d n (IsStatement first d) (statement first d)
+pub nest_statement : (first : Bool) (d n : ℕ) → ReadsInner d n (IsStatement first d) (statement first d)
 nest_statement true d = nest_stmt false d
 nest_statement false d = (law_later d (IsStmt false d) (IsStmt false (suc d)) (stmt false d) (stmt false (suc d)) (laws false d)).nest

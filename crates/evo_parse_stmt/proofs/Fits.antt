@@ -2,15 +2,15 @@
 use Rattle.std.specs.Prelude.{◌≡◌, ◌==◌, ◌&&◌, ℕ, zero, suc, ◌-◌, Bool, true, List, [], ◌∷◌, ◌++◌, Option, Some, None, ◌⊎◌, refl}
 use Rattle.std.proofs.Common.{sym, ◌∙◌, ap, subst, inl, inr, arith, length-append}
 use Rattle.evo_base.specs.declared.place.Place.{Place}
-use Rattle.evo_combinators.specs.Rule.{Only, Nothing, Led, One, Or, Then, Many, Some_of}
+use Rattle.evo_combinators.specs.Rule.{Empty, Fail, TokenThen, One, Or, Then, Many, SomeOf}
 use Rattle.evo_combinators.specs.Reader.{◌>>=◌, pure, refuse, alt, one, bar, many}
 use Rattle.evo_combinators.specs.Guard.{On, Run, ahead}
 use Rattle.evo_combinators.specs.Attempt.{attempt, tries}
-use Rattle.evo_combinators.specs.Laws.{Begins, Deeper, Right, Skips, first}
+use Rattle.evo_combinators.specs.Laws.{Begins, GrowsWithNesting, ReadsRule, Skips, first}
 use Rattle.evo_combinators.proofs.Laws.{right_pure, right_nothing, right_then_by, right_alt_by, right_same, right_stop, right_map, right_one, right_bar, right_many, begins_led, begins_or, begins_skips, begins_as}
 use Rattle.evo_combinators.proofs.GuardLaws.{right_ahead}
 use Rattle.evo_combinators.proofs.Attempts.{right_attempt, right_tries, deeper_attempt, deeper_tries}
-use Rattle.evo_combinators.proofs.Deeper.{same_refl, deeper_then, deeper_alt, deeper_bar, deeper_many}
+use Rattle.evo_combinators.proofs.GrowsWithNesting.{same_refl, deeper_then, deeper_alt, deeper_bar, deeper_many}
 use Rattle.evo_combinators.proofs.Sequences.{Anything, some_only, some_led, some_then, to_led, of_led}
 use Rattle.evo_tree.specs.Pieces.{Piece, mark, identifier}
 use Rattle.evo_tree.specs.Expressions.{Rule, Nested}
@@ -23,20 +23,20 @@ use Rattle.evo_combinators.proofs.NestingTries.{nest_made, nest_attempt, nest_ah
 use Rattle.evo_tree.specs.Pieces.{opens_nesting}
 use Rattle.evo_tree.specs.Terminals.{number_of}
 use Rattle.evo_parse_expr.proofs.Tests.{is_quiet, quiet_mark, quiet_number}
-use Rattle.evo_parse_expr.proofs.Nesting.{May, Nests, Under, nest_opens, identifier_quiet}
+use Rattle.evo_parse_expr.proofs.Nesting.{May, ReadsInner, Under, nest_opens, identifier_quiet}
 use Rattle.evo_parse_stmt.proofs.Tests.{among, or_cases, and_cases, is_number, disjoint, code, Codes, apart, among_append, among_behind, a_piece, a_place, mark_takes, identifier_takes}
 
 -- the reader reads the rule, and with more nesting the other ones go together so too
 pub record Law {A : Type 0} (d : ℕ) (Stop : Option Piece → Type 0) (S S' : Rule A) (p p' : Reader A) : Type 0 where
-  pub right : (n : ℕ) → Right n Stop S S' p
-  pub deeper : Deeper p p'
-  pub nest : (n : ℕ) → Nests d n S p
+  pub right : (n : ℕ) → ReadsRule n Stop S S' p
+  pub deeper : GrowsWithNesting p p'
+  pub nest : (n : ℕ) → ReadsInner d n S p
 
 -- and with more nesting something is spelled
 pub record Fits {A : Type 0} (d : ℕ) (Stop : Option Piece → Type 0) (S S' : Rule A) (p p' : Reader A) : Type 0 where
   pub law : Law d Stop S S' p p'
-  pub some : Some_of S'
-  pub here : May d → Some_of S
+  pub some : SomeOf S'
+  pub here : May d → SomeOf S
 
 -- the tokens that a test takes open no nesting
 abbrev pub Quiet : {A : Type 0} → (Piece → Option A) → Type 0
@@ -58,11 +58,11 @@ quiet_by f js all codes t a takes is = quiet_number (code t) (quiet_among js (co
 
 -- as far as the nesting may open
 abbrev pub Below : {A : Type 0} → ℕ → (Option Piece → Type 0) → Rule A → Rule A → Reader A → Reader A → Type 0
-Below zero Stop S S' p p' = Some_of S'
+Below zero Stop S S' p p' = SomeOf S'
 Below (suc d) Stop S S' p p' = Fits (suc d) Stop S S' p p'
 
 -- what reads where some nesting may open also reads where more may
-pub lift : {d : ℕ} {A : Type 0} {Stop : Option Piece → Type 0} {S S' : Rule A} {p p' : Reader A} → Some_of S → Fits d Stop S S' p p' → Fits (suc d) Stop S S' p p'
+pub lift : {d : ℕ} {A : Type 0} {Stop : Option Piece → Type 0} {S S' : Rule A} {p p' : Reader A} → SomeOf S → Fits d Stop S S' p p' → Fits (suc d) Stop S S' p p'
 lift some fits = record {
   law = record {
     right = fits.law.right;
@@ -81,11 +81,11 @@ fits_stop {d} {A} {Stop} {End} {S} {S'} {p} {p'} ends ended fits = record {
   here = fits.here;
 }
 
-pub fits_pure : {d : ℕ} {A : Type 0} {Stop : Option Piece → Type 0} → Stop None → (a : A) → Fits d Stop (Only a) (Only a) (pure a) (pure a)
-fits_pure {d} {A} {Stop} ended a = record { law = record { right = λ n. right_pure n Stop ended a; deeper = same_refl (pure a); nest = λ n. nest_pure (May d) opens_nesting n (Only a) a }; some = some_only a; here = λ held. some_only a }
+pub fits_pure : {d : ℕ} {A : Type 0} {Stop : Option Piece → Type 0} → Stop None → (a : A) → Fits d Stop (Empty a) (Empty a) (pure a) (pure a)
+fits_pure {d} {A} {Stop} ended a = record { law = record { right = λ n. right_pure n Stop ended a; deeper = same_refl (pure a); nest = λ n. nest_pure (May d) opens_nesting n (Empty a) a }; some = some_only a; here = λ held. some_only a }
 
-pub law_nothing : {d : ℕ} {A : Type 0} {Stop : Option Piece → Type 0} → Stop None → Law {A = A} d Stop Nothing Nothing refuse refuse
-law_nothing {d} {A} {Stop} ended = record { right = λ n. right_nothing n Stop ended; deeper = same_refl refuse; nest = λ n. nest_refuse (May d) opens_nesting n Nothing }
+pub law_nothing : {d : ℕ} {A : Type 0} {Stop : Option Piece → Type 0} → Stop None → Law {A = A} d Stop Fail Fail refuse refuse
+law_nothing {d} {A} {Stop} ended = record { right = λ n. right_nothing n Stop ended; deeper = same_refl refuse; nest = λ n. nest_refuse (May d) opens_nesting n Fail }
 
 pub fits_then : {d : ℕ} {A B : Type 0} {Stop End : Option Piece → Type 0} {S S' : Rule A} {R R' : A → Rule B} {p p' : Reader A} {q q' : A → Reader B} → End None →
     ((a : A) (vs rest : List Piece) (b : B) → R a vs b → End (first rest) → Stop (first (vs ++ rest))) →
@@ -106,11 +106,11 @@ pub fits_next : {d : ℕ} {A B : Type 0} {End : Option Piece → Type 0} {S S' :
 fits_next ended fits next = fits_then ended (λ a vs rest b s stop. tt) fits next
 
 pub fits_map : {d : ℕ} {A B : Type 0} {Stop : Option Piece → Type 0} {S S' : Rule A} {p p' : Reader A} (g : A → B) → Fits d Stop S S' p p' →
-    Fits d Stop (Then S (λ a. Only (g a))) (Then S' (λ a. Only (g a))) (p >>= (λ a. pure (g a))) (p' >>= (λ a. pure (g a)))
+    Fits d Stop (Then S (λ a. Empty (g a))) (Then S' (λ a. Empty (g a))) (p >>= (λ a. pure (g a))) (p' >>= (λ a. pure (g a)))
 fits_map {d} {A} {B} {Stop} {S} {S'} {p} {p'} g fits = record {
   law = record { right = λ n. right_map n Stop S S' p g (fits.law.right n); deeper = deeper_then p p' _ _ fits.law.deeper (λ a. same_refl (pure (g a))); nest = λ n. nest_made (May d) opens_nesting n S p g (fits.law.nest n) };
-  some = some_then S' (λ a. Only (g a)) fits.some (λ a. some_only (g a));
-  here = λ held. some_then S (λ a. Only (g a)) (fits.here held) (λ a. some_only (g a));
+  some = some_then S' (λ a. Empty (g a)) fits.some (λ a. some_only (g a));
+  here = λ held. some_then S (λ a. Empty (g a)) (fits.here held) (λ a. some_only (g a));
 }
 
 pub fits_one : {d : ℕ} {A : Type 0} (f : Piece → Option A) → Quiet f → (t : Piece) (a : A) → f t ≡ Some a → Fits d Anything (One f) (One f) (one f) (one f)
@@ -118,18 +118,18 @@ fits_one {d} {A} f quiet t a takes = record {
   law = record {
     right = λ n. right_one n Anything tt f;
     deeper = same_refl (one f);
-    nest = λ n. nest_by (May d) opens_nesting n (Or (One f) Nothing) (One f) (one f) (λ us x s. elim s [ inl one ↦ one | inr none ↦ absurd none ])
-        (nest_quiet (May d) opens_nesting n f (λ x. Only x) Nothing pure refuse quiet (λ x. nest_pure (May d) opens_nesting (n - 1) (Only x) x) (nest_refuse (May d) opens_nesting n Nothing));
+    nest = λ n. nest_by (May d) opens_nesting n (Or (One f) Fail) (One f) (one f) (λ us x s. elim s [ inl one ↦ one | inr none ↦ absurd none ])
+        (nest_quiet (May d) opens_nesting n f (λ x. Empty x) Fail pure refuse quiet (λ x. nest_pure (May d) opens_nesting (n - 1) (Empty x) x) (nest_refuse (May d) opens_nesting n Fail));
   };
   some = (t ∷ [], a, (t, a, [], refl, takes, (refl, refl)));
   here = λ held. (t ∷ [], a, (t, a, [], refl, takes, (refl, refl)));
 }
 
 pub fits_led : {d : ℕ} {A B : Type 0} {Stop : Option Piece → Type 0} {S S' : A → Rule B} {q q' : A → Reader B} (f : Piece → Option A) → Quiet f → (t : Piece) (a : A) → f t ≡ Some a → Stop None →
-    ((a : A) → Fits d Stop (S a) (S' a) (q a) (q' a)) → Fits d Stop (Led f S) (Led f S') (one f >>= q) (one f >>= q')
+    ((a : A) → Fits d Stop (S a) (S' a) (q a) (q' a)) → Fits d Stop (TokenThen f S) (TokenThen f S') (one f >>= q) (one f >>= q')
 fits_led {d} {A} {B} {Stop} {S} {S'} {q} {q'} f quiet t a takes ended fits = record {
   law = record {
-    right = λ n. right_same n Stop (Then (One f) S) (Then (One f) S') (Led f S) (Led f S') (one f >>= q) (to_led f S) (of_led f S) (to_led f S')
+    right = λ n. right_same n Stop (Then (One f) S) (Then (One f) S') (TokenThen f S) (TokenThen f S') (one f >>= q) (to_led f S) (of_led f S) (to_led f S')
         ((fits_next ended (fits_one f quiet t a takes) fits).law.right n);
     deeper = deeper_then (one f) (one f) q q' (same_refl (one f)) (λ x. (fits x).law.deeper);
     nest = λ n. nest_led (May d) opens_nesting n f S q quiet (λ x. (fits x).law.nest n);
@@ -139,18 +139,18 @@ fits_led {d} {A} {B} {Stop} {S} {S'} {q} {q'} f quiet t a takes ended fits = rec
 }
 
 pub fits_mark : {d : ℕ} {B : Type 0} {Stop : Option Piece → Type 0} {S S' : Place → Rule B} {q q' : Place → Reader B} (k : Terminal) → is_quiet (number_of k) ≡ true → Stop None →
-    ((p : Place) → Fits d Stop (S p) (S' p) (q p) (q' p)) → Fits d Stop (Led (mark k) S) (Led (mark k) S') (one (mark k) >>= q) (one (mark k) >>= q')
+    ((p : Place) → Fits d Stop (S p) (S' p) (q p) (q' p)) → Fits d Stop (TokenThen (mark k) S) (TokenThen (mark k) S') (one (mark k) >>= q) (one (mark k) >>= q')
 fits_mark k quiet ended fits = fits_led (mark k) (quiet_mark k quiet) (a_piece k []) a_place (mark_takes k) ended fits
 
 pub fits_name : {d : ℕ} {B : Type 0} {Stop : Option Piece → Type 0} {S S' : Identifier → Rule B} {q q' : Identifier → Reader B} → Stop None →
-    ((n : Identifier) → Fits d Stop (S n) (S' n) (q n) (q' n)) → Fits d Stop (Led identifier S) (Led identifier S') (one identifier >>= q) (one identifier >>= q')
+    ((n : Identifier) → Fits d Stop (S n) (S' n) (q n) (q' n)) → Fits d Stop (TokenThen identifier S) (TokenThen identifier S') (one identifier >>= q) (one identifier >>= q')
 fits_name ended fits = fits_led identifier identifier_quiet (a_piece t.Identifier []) (record { place = a_place; text = [] }) identifier_takes ended fits
 
 -- ---- by the first token
 
 pub law_alt : {d : ℕ} {A B : Type 0} {Stop : Option Piece → Type 0} {S S' : A → Rule B} {R R' : Rule B} {q q' : A → Reader B} {r r' : Reader B} (f : Piece → Option A) → Quiet f →
     ((us rest : List Piece) (b : B) → R us b → Stop (first rest) → Skips f (us ++ rest)) →
-    ((a : A) → Fits d Stop (S a) (S' a) (q a) (q' a)) → Law d Stop R R' r r' → Law d Stop (Or (Led f S) R) (Or (Led f S') R') (alt f q r) (alt f q' r')
+    ((a : A) → Fits d Stop (S a) (S' a) (q a) (q' a)) → Law d Stop R R' r r' → Law d Stop (Or (TokenThen f S) R) (Or (TokenThen f S') R') (alt f q r) (alt f q' r')
 law_alt {d} {A} {B} {Stop} {S} {S'} {R} {R'} {q} {q'} {r} {r'} f quiet skips fits other = record {
   right = λ n. right_alt_by n Stop f S S' R R' q r (λ a. (fits a).law.right (n - 1)) (other.right n) (λ a. (fits a).some) skips;
   deeper = deeper_alt f q q' r r' (λ a. (fits a).law.deeper) other.deeper;
@@ -159,7 +159,7 @@ law_alt {d} {A} {B} {Stop} {S} {S'} {R} {R'} {q} {q'} {r} {r'} f quiet skips fit
 
 pub fits_alt : {d : ℕ} {A B : Type 0} {Stop : Option Piece → Type 0} {S S' : A → Rule B} {R R' : Rule B} {q q' : A → Reader B} {r r' : Reader B} (f : Piece → Option A) → Quiet f →
     ((us rest : List Piece) (b : B) → R us b → Stop (first rest) → Skips f (us ++ rest)) →
-    ((a : A) → Fits d Stop (S a) (S' a) (q a) (q' a)) → Fits d Stop R R' r r' → Fits d Stop (Or (Led f S) R) (Or (Led f S') R') (alt f q r) (alt f q' r')
+    ((a : A) → Fits d Stop (S a) (S' a) (q a) (q' a)) → Fits d Stop R R' r r' → Fits d Stop (Or (TokenThen f S) R) (Or (TokenThen f S') R') (alt f q r) (alt f q' r')
 fits_alt f quiet skips fits other = record { law = law_alt f quiet skips fits other.law; some = let (us, b, s) = other.some in (us, b, inr s); here = λ held. let (us, b, s) = other.here held in (us, b, inr s) }
 
 under_of : {A : Type 0} (d n : ℕ) (Stop : Option Piece → Type 0) (S S' : Rule A) (p p' : Reader A) → Below d Stop S S' p p' → Under d n S p
@@ -172,7 +172,7 @@ pub law_opens : {A B : Type 0} {Stop : Option Piece → Type 0} {R R' : Rule B} 
     ((a : A) → Below d Stop (S a) (S' a) (q a) (q' a)) → Law d Stop R R' r r' →
     Law d Stop (Or (Nested d f S) R) (Or (Nested (suc d) f S') R') (opens d f q r) (opens (suc d) f q' r')
 law_opens {A} {B} {Stop} {R} {R'} {r} {r'} zero f S S' q q' opening skips fits other = record {
-  right = λ n. right_same n Stop R (Or (Led f S') R') (Or Nothing R) (Or (Led f S') R') (bar f r) (λ us b s. inr s) (λ us b s. elim s [ inl none ↦ absurd none | inr r ↦ r ]) (λ us b s. s)
+  right = λ n. right_same n Stop R (Or (TokenThen f S') R') (Or Fail R) (Or (TokenThen f S') R') (bar f r) (λ us b s. inr s) (λ us b s. elim s [ inl none ↦ absurd none | inr r ↦ r ]) (λ us b s. s)
       (right_bar n Stop f S' R R' r (other.right n) fits skips);
   deeper = deeper_bar f q' q' r r' (λ a. same_refl (q' a)) other.deeper;
   nest = λ n. nest_opens 0 n f S R q r opening (λ a. tt) (other.nest n);
@@ -184,14 +184,14 @@ law_opens {A} {B} {Stop} {R} {R'} {r} {r'} (suc d) f S S' q q' opening skips fit
 }
 
 -- where a rule may spell nothing
-pub no_skips : {A B : Type 0} (Stop : Option Piece → Type 0) (f : Piece → Option A) → (us rest : List Piece) (b : B) → Nothing us b → Stop (first rest) → Skips f (us ++ rest)
+pub no_skips : {A B : Type 0} (Stop : Option Piece → Type 0) (f : Piece → Option A) → (us rest : List Piece) (b : B) → Fail us b → Stop (first rest) → Skips f (us ++ rest)
 no_skips Stop f us rest b s stop = absurd s
 
 -- ---- any number
 
 pub fits_many : {d : ℕ} {A B : Type 0} {Stop End : Option Piece → Type 0} {S S' : A → Rule B} {q q' : A → Reader B} (f : Piece → Option A) → Quiet f → End None →
     ((t : Piece) (a : A) → End (Some t) → f t ≡ Some a → ⊥) → ((x : Option Piece) → End x → Stop x) → ((t : Piece) (a : A) → f t ≡ Some a → Stop (Some t)) →
-    ((a : A) → Some_of (S a)) → ((a : A) → Fits d Stop (S a) (S' a) (q a) (q' a)) → Fits d End (Many f S) (Many f S') (many f q) (many f q')
+    ((a : A) → SomeOf (S a)) → ((a : A) → Fits d Stop (S a) (S' a) (q a) (q' a)) → Fits d End (Many f S) (Many f S') (many f q) (many f q')
 fits_many {d} {A} {B} {Stop} {End} {S} {S'} {q} {q'} f quiet ended stops ends next some fits = record {
   law = record {
     right = right_many End Stop f S S' q (λ n a. (fits a).law.right n) some ended stops ends next;
@@ -222,7 +222,7 @@ law_ahead {d} {A} {Stop} {S} {S'} {p} {p'} g P begins law = record {
 -- ---- trying
 
 abbrev Maybe : {A : Type 0} → Rule A → Rule (Option A)
-Maybe S = Or (Then S (λ a. Only (Some a))) (Only None)
+Maybe S = Or (Then S (λ a. Empty (Some a))) (Empty None)
 
 pub fits_attempt : {d : ℕ} {A : Type 0} {Stop End : Option Piece → Type 0} {S S' : Rule A} {p p' : Reader A} (P : Piece → Type 0) → Begins P S' → End None →
     ((x : Option Piece) → End x → Stop x) → ((t : Piece) → End (Some t) → P t → ⊥) → Law d Stop S S' p p' → Fits d End (Maybe S) (Maybe S') (attempt p) (attempt p')
@@ -276,10 +276,10 @@ pub record Tail {A : Type 0} (d : ℕ) (Stop : Option Piece → Type 0) (extra :
 pub tail_alt : {d : ℕ} {A B : Type 0} {Stop : Option Piece → Type 0} {extra : Piece → Type 0} {ks : List ℕ} {S S' : A → Rule B} {R R' : Rule B} {q q' : A → Reader B} {r r' : Reader B}
     (f : Piece → Option A) (js : List ℕ) → Codes js f → Quiet f → disjoint js ks ≡ true → ((t : Piece) → extra t → among js (code t) ≡ true → ⊥) →
     ((a : A) → Fits d Stop (S a) (S' a) (q a) (q' a)) → Tail d Stop extra ks R R' r r' →
-    Tail d Stop extra (js ++ ks) (Or (Led f S) R) (Or (Led f S') R') (alt f q r) (alt f q' r')
+    Tail d Stop extra (js ++ ks) (Or (TokenThen f S) R) (Or (TokenThen f S') R') (alt f q r) (alt f q' r')
 tail_alt {d} {A} {B} {Stop} {extra} {ks} {S} {S'} {R} {R'} {q} {q'} {r} {r'} f js codes quiet far other fits tail = record {
   fits = fits_alt f quiet (λ us rest b s stop. begins_skips (Leads extra ks) f R (begun_law tail.fits.law tail.begins) clash us rest b s) fits tail.fits;
-  begins = begins_or (Leads extra (js ++ ks)) (Led f S') R' (begins_led (Leads extra (js ++ ks)) f S' (λ t a takes. inl (among_append js ks (code t) (codes t a takes))))
+  begins = begins_or (Leads extra (js ++ ks)) (TokenThen f S') R' (begins_led (Leads extra (js ++ ks)) f S' (λ t a takes. inl (among_append js ks (code t) (codes t a takes))))
       (begins_as (Leads extra ks) (Leads extra (js ++ ks)) R' (λ t h. elim h [ inl is ↦ inl (among_behind js ks (code t) is) | inr e ↦ inr e ]) tail.begins);
 }
   where
@@ -288,5 +288,5 @@ tail_alt {d} {A} {B} {Stop} {extra} {ks} {S} {S'} {R} {R'} {q} {q'} {r} {r'} f j
     clash t a (inr e) takes = other t e (codes t a takes)
 
 pub tail_last : {d : ℕ} {A B : Type 0} {Stop : Option Piece → Type 0} {extra : Piece → Type 0} {S S' : A → Rule B} {r r' : Reader B} (f : Piece → Option A) (js : List ℕ) → Codes js f →
-    Fits d Stop (Led f S) (Led f S') r r' → Tail d Stop extra js (Led f S) (Led f S') r r'
+    Fits d Stop (TokenThen f S) (TokenThen f S') r r' → Tail d Stop extra js (TokenThen f S) (TokenThen f S') r r'
 tail_last {d} {A} {B} {Stop} {extra} {S} {S'} f js codes fits = record { fits = fits; begins = begins_led (Leads extra js) f S' (λ t a takes. inl (codes t a takes)) }

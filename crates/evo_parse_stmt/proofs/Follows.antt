@@ -79,9 +79,9 @@ pub record After (p : Piece) : Type 0 where
   pub no_operator : among assigning_codes (code p) ≡ true → ⊥
   pub no_value : Opens p → p.below ≡ true
 
-abbrev pub After_stmt : Option Piece → Type 0
-After_stmt None = Unit {0}
-After_stmt (Some p) = After p
+abbrev pub AfterStmt : Option Piece → Type 0
+AfterStmt None = Unit {0}
+AfterStmt (Some p) = After p
 
 abbrev pub closing : List ℕ
 closing = map number_of (t.CloseBrace ∷ t.Case ∷ t.Default ∷ t.At ∷ [])
@@ -104,9 +104,9 @@ abbrev pub Starts : Piece → Type 0
 Starts = Leads Fresh leading
 
 -- begins the first statement (true), or a further one with its separator
-abbrev pub Starts_at : Bool → Piece → Type 0
-Starts_at true p = Starts p
-Starts_at false p = (code p ≡ number_of t.Semicolon) ⊎ ((p.below ≡ true) × (code p ≡ number_of t.Dot → ⊥) × Starts p)
+abbrev pub BeginsAt : Bool → Piece → Type 0
+BeginsAt true p = Starts p
+BeginsAt false p = (code p ≡ number_of t.Semicolon) ⊎ ((p.below ≡ true) × (code p ≡ number_of t.Dot → ⊥) × Starts p)
 
 -- a terminal that nothing before it goes on with
 pub after_at : (k : Terminal) (p : Piece) → code p ≡ number_of k → 6 < rank_at k true false → among (number_of t.Else ∷ assigning_codes) (number_of k) ≡ false → opens_expr k ≡ false → After p
@@ -195,13 +195,13 @@ fresh_after p fresh below dot =
       no_value = λ _. below;
     }
 
-pub closes_after : (x : Option Piece) → Closes x → After_stmt x
+pub closes_after : (x : Option Piece) → Closes x → AfterStmt x
 unfolding calm_codes
 closes_after None h = tt
 closes_after (Some p) h = among_after closing p refl h
 
 -- what a further statement begins with may follow one
-pub next_after : (p : Piece) → Starts_at false p → After_stmt (Some p)
+pub next_after : (p : Piece) → BeginsAt false p → AfterStmt (Some p)
 unfolding calm_codes
 next_after p (inl semicolon) = among_after (number_of t.Semicolon ∷ []) p refl (among_at (number_of t.Semicolon ∷ []) (code p) (number_of t.Semicolon) semicolon refl)
 next_after p (inr (below, dot, inl lead)) = among_after leading p refl lead
@@ -211,7 +211,7 @@ starts_shut : (p : Piece) → among closing (code p) ≡ true → Starts p → �
 starts_shut p close (inl lead) = apart closing leading (code p) refl close lead
 starts_shut p close (inr fresh) = apart closing expression_codes (code p) refl close (opens_among p.terminal fresh.opens)
 
-pub closes_shut : (first : Bool) (p : Piece) → Closes (Some p) → Starts_at first p → ⊥
+pub closes_shut : (first : Bool) (p : Piece) → Closes (Some p) → BeginsAt first p → ⊥
 closes_shut true p close starts = starts_shut p close starts
 closes_shut false p close (inl semicolon) = not_among closing (code p) (number_of t.Semicolon) close semicolon refl
 closes_shut false p close (inr (below, dot, starts)) = starts_shut p close starts
@@ -241,7 +241,7 @@ fresh_mark k opens minus p a takes =
     let same = mark_number k p a takes in
     record { opens = ap opens_expr (same_terminal p.terminal k same) ∙ opens; no_minus = λ between is. minus (sym same ∙ is) }
 
-pub after_six : (x : Option Piece) → After_stmt x → Stop 6 x
+pub after_six : (x : Option Piece) → AfterStmt x → Stop 6 x
 after_six None h = omega arith
 after_six (Some p) h = h.quiet
 

@@ -7,5 +7,5 @@ pub mod Opened
 pub mod Paths
 pub mod Patterns
 pub mod Productions
-pub mod Right
+pub mod ReadsRule
 pub mod Tests

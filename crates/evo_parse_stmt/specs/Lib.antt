@@ -1,3 +1,3 @@
 pub mod Read
-pub mod Nests
-pub mod Turns
+pub mod ReadsInner
+pub mod AtDepth

@@ -24,7 +24,7 @@ use Rattle.evo_tree.specs.Types.{type_head}
 use Rattle.evo_tree.specs.Statements as grammar
 use Rattle.evo_tree.specs.Statements.{introduces, is_here, is_below, is_later, assigns_to, binding, path_of, case_of_type, is_last_clause, is_last_branch, no_longer_first, less}
 use Rattle.evo_parse_expr.specs.Read.{Reader, opens, after, type_of, expr}
-use Rattle.evo_parse_expr.specs.Turns.{called_at}
+use Rattle.evo_parse_expr.specs.AtDepth.{called_at}
 
 -- ---- patterns
 

@@ -5,9 +5,9 @@ ghost use Rattle.evo_combinators.specs.Attempt.{attempt};
 ghost use Rattle.evo_combinators.specs.Reader.{Reads};
 ghost use Rattle.evo_tree.specs.Statements as tree;
 ghost use Rattle.evo_tree.specs.declared.statement.Clause.{out-Clause};
-ghost use Rattle.evo_parse_stmt.specs.Nests.{Nests};
+ghost use Rattle.evo_parse_stmt.specs.ReadsInner.{ReadsInner};
 ghost use Rattle.evo_parse_stmt.specs.Read.{inner_of};
-ghost use Rattle.evo_parse_stmt.specs.Turns as spec;
+ghost use Rattle.evo_parse_stmt.specs.AtDepth as spec;
 
 use crate::fault::{is_refusal, too_deep};
 use crate::label::label;
@@ -54,7 +54,7 @@ pub struct Statements<F> {
 impl<F: Fn(Global, &mut Cursor<'_>, u32, bool) -> Result<Stmt, ReadError>> Statements<F> {
     /// A statement in braces.
     fn inner(&self, tokens: &mut Cursor<'_>) -> Result<Stmt, ReadError>
-        requires nests { Nests self.now.depth (F.pre self.now.statement) (F.post self.now.statement) }
+        requires nests { ReadsInner self.now.depth (F.pre self.now.statement) (F.post self.now.statement) }
         requires open { 0 < self.now.depth }
         ensures { Reads (inner_of self.now.inits self.now.depth tokens.old) result tokens.new }
     {
@@ -63,7 +63,7 @@ impl<F: Fn(Global, &mut Cursor<'_>, u32, bool) -> Result<Stmt, ReadError>> State
 
     #[tactic(auto, unfolding(crate::specs::Read::later))]
     fn later(&self, tokens: &mut Cursor<'_>) -> Result<Stmt, ReadError>
-        requires nests { Nests self.now.depth (F.pre self.now.statement) (F.post self.now.statement) }
+        requires nests { ReadsInner self.now.depth (F.pre self.now.statement) (F.post self.now.statement) }
         requires open { 0 < self.now.depth }
         ensures { Reads (spec.later self.now.inits self.now.depth tokens.old) result tokens.new }
     {
@@ -73,7 +73,7 @@ impl<F: Fn(Global, &mut Cursor<'_>, u32, bool) -> Result<Stmt, ReadError>> State
 
     #[tactic(auto, unfolding(crate::specs::Read::further))]
     fn further(&self, tokens: &mut Cursor<'_>) -> Result<Stmt, ReadError>
-        requires nests { Nests self.now.depth (F.pre self.now.statement) (F.post self.now.statement) }
+        requires nests { ReadsInner self.now.depth (F.pre self.now.statement) (F.post self.now.statement) }
         requires open { 0 < self.now.depth }
         ensures { Reads (spec.further self.now.inits self.now.depth tokens.old) result tokens.new }
     {
@@ -85,7 +85,7 @@ impl<F: Fn(Global, &mut Cursor<'_>, u32, bool) -> Result<Stmt, ReadError>> State
     }
 
     fn statement_at(&self, tokens: &mut Cursor<'_>, first: bool) -> Result<Stmt, ReadError>
-        requires nests { Nests self.now.depth (F.pre self.now.statement) (F.post self.now.statement) }
+        requires nests { ReadsInner self.now.depth (F.pre self.now.statement) (F.post self.now.statement) }
         requires open { 0 < self.now.depth }
         ensures { Reads (spec.statement_at self.now.inits self.now.depth first tokens.old) result tokens.new }
     {
@@ -97,7 +97,7 @@ impl<F: Fn(Global, &mut Cursor<'_>, u32, bool) -> Result<Stmt, ReadError>> State
     }
 
     fn try_statement(&self, tokens: &mut Cursor<'_>, first: bool) -> Result<Option<Stmt>, ReadError>
-        requires nests { Nests self.now.depth (F.pre self.now.statement) (F.post self.now.statement) }
+        requires nests { ReadsInner self.now.depth (F.pre self.now.statement) (F.post self.now.statement) }
         requires open { 0 < self.now.depth }
         ensures { Reads (attempt (spec.statement_at self.now.inits self.now.depth first) tokens.old) result tokens.new }
     {
@@ -116,7 +116,7 @@ impl<F: Fn(Global, &mut Cursor<'_>, u32, bool) -> Result<Stmt, ReadError>> State
 
     /// Statements, of which the first is still to come or not.
     fn statements(&self, tokens: &mut Cursor<'_>, first: bool) -> Result<Items<Stmt>, ReadError>
-        requires nests { Nests self.now.depth (F.pre self.now.statement) (F.post self.now.statement) }
+        requires nests { ReadsInner self.now.depth (F.pre self.now.statement) (F.post self.now.statement) }
         requires open { 0 < self.now.depth }
         ensures { Reads (spec.statements self.now.inits self.now.depth first tokens.old) result tokens.new }
     {
@@ -134,7 +134,7 @@ impl<F: Fn(Global, &mut Cursor<'_>, u32, bool) -> Result<Stmt, ReadError>> State
 
     #[tactic(auto, unfolding(crate::specs::Read::some_statements))]
     fn some_statements(&self, tokens: &mut Cursor<'_>) -> Result<Items<Stmt>, ReadError>
-        requires nests { Nests self.now.depth (F.pre self.now.statement) (F.post self.now.statement) }
+        requires nests { ReadsInner self.now.depth (F.pre self.now.statement) (F.post self.now.statement) }
         requires open { 0 < self.now.depth }
         ensures { Reads (spec.some_statements self.now.inits self.now.depth tokens.old) result tokens.new }
     {
@@ -146,7 +146,7 @@ impl<F: Fn(Global, &mut Cursor<'_>, u32, bool) -> Result<Stmt, ReadError>> State
 
     #[tactic(auto, unfolding(crate::specs::Read::rest_of_block))]
     fn rest_of_block(&self, tokens: &mut Cursor<'_>, place: Place) -> Result<Block, ReadError>
-        requires nests { Nests self.now.depth (F.pre self.now.statement) (F.post self.now.statement) }
+        requires nests { ReadsInner self.now.depth (F.pre self.now.statement) (F.post self.now.statement) }
         requires open { 0 < self.now.depth }
         ensures { Reads (spec.rest_of_block self.now.inits self.now.depth place tokens.old) result tokens.new }
     {
@@ -162,7 +162,7 @@ impl<F: Fn(Global, &mut Cursor<'_>, u32, bool) -> Result<Stmt, ReadError>> State
     /// A block.
     #[tactic(auto, unfolding(crate::specs::Read::block_of))]
     pub fn block(&self, tokens: &mut Cursor<'_>) -> Result<Block, ReadError>
-        requires { Nests self.now.depth (F.pre self.now.statement) (F.post self.now.statement) }
+        requires { ReadsInner self.now.depth (F.pre self.now.statement) (F.post self.now.statement) }
         ensures { Reads (spec.block self.now.inits self.now.depth tokens.old) result tokens.new }
     {
         let left = tokens.left();
@@ -184,7 +184,7 @@ impl<F: Fn(Global, &mut Cursor<'_>, u32, bool) -> Result<Stmt, ReadError>> State
 
     #[tactic(auto, unfolding(crate::specs::Read::clause))]
     fn clause(&self, tokens: &mut Cursor<'_>) -> Result<Clause, ReadError>
-        requires nests { Nests self.now.depth (F.pre self.now.statement) (F.post self.now.statement) }
+        requires nests { ReadsInner self.now.depth (F.pre self.now.statement) (F.post self.now.statement) }
         requires open { 0 < self.now.depth }
         ensures { Reads (spec.clause self.now.inits self.now.depth tokens.old) result tokens.new }
     {
@@ -199,7 +199,7 @@ impl<F: Fn(Global, &mut Cursor<'_>, u32, bool) -> Result<Stmt, ReadError>> State
     }
 
     fn clause_at(&self, tokens: &mut Cursor<'_>, ended: bool) -> Result<Clause, ReadError>
-        requires nests { Nests self.now.depth (F.pre self.now.statement) (F.post self.now.statement) }
+        requires nests { ReadsInner self.now.depth (F.pre self.now.statement) (F.post self.now.statement) }
         requires open { 0 < self.now.depth }
         ensures { Reads (spec.clause_at self.now.inits self.now.depth ended tokens.old) result tokens.new }
     {
@@ -211,7 +211,7 @@ impl<F: Fn(Global, &mut Cursor<'_>, u32, bool) -> Result<Stmt, ReadError>> State
     }
 
     fn try_clause(&self, tokens: &mut Cursor<'_>, ended: bool) -> Result<Option<Clause>, ReadError>
-        requires nests { Nests self.now.depth (F.pre self.now.statement) (F.post self.now.statement) }
+        requires nests { ReadsInner self.now.depth (F.pre self.now.statement) (F.post self.now.statement) }
         requires open { 0 < self.now.depth }
         ensures { Reads (attempt (spec.clause_at self.now.inits self.now.depth ended) tokens.old) result tokens.new }
     {
@@ -234,7 +234,7 @@ impl<F: Fn(Global, &mut Cursor<'_>, u32, bool) -> Result<Stmt, ReadError>> State
         tokens: &mut Cursor<'_>,
         before: bool,
     ) -> Result<Items<Clause>, ReadError>
-        requires nests { Nests self.now.depth (F.pre self.now.statement) (F.post self.now.statement) }
+        requires nests { ReadsInner self.now.depth (F.pre self.now.statement) (F.post self.now.statement) }
         requires open { 0 < self.now.depth }
         ensures { Reads (spec.further_clauses self.now.inits self.now.depth before tokens.old) result tokens.new }
     {
@@ -255,7 +255,7 @@ impl<F: Fn(Global, &mut Cursor<'_>, u32, bool) -> Result<Stmt, ReadError>> State
         tokens: &mut Cursor<'_>,
         first: &Clause,
     ) -> Result<Items<Clause>, ReadError>
-        requires nests { Nests self.now.depth (F.pre self.now.statement) (F.post self.now.statement) }
+        requires nests { ReadsInner self.now.depth (F.pre self.now.statement) (F.post self.now.statement) }
         requires open { 0 < self.now.depth }
         ensures { Reads (spec.further_clauses self.now.inits self.now.depth (tree.is_last_clause false first.now) tokens.old) result tokens.new }
     {
@@ -264,7 +264,7 @@ impl<F: Fn(Global, &mut Cursor<'_>, u32, bool) -> Result<Stmt, ReadError>> State
 
     #[tactic(auto, unfolding(crate::specs::Read::rest_of_clauses))]
     fn rest_of_clauses(&self, tokens: &mut Cursor<'_>) -> Result<Items<Clause>, ReadError>
-        requires nests { Nests self.now.depth (F.pre self.now.statement) (F.post self.now.statement) }
+        requires nests { ReadsInner self.now.depth (F.pre self.now.statement) (F.post self.now.statement) }
         requires open { 0 < self.now.depth }
         ensures { Reads (spec.rest_of_clauses self.now.inits self.now.depth tokens.old) result tokens.new }
     {
@@ -277,7 +277,7 @@ impl<F: Fn(Global, &mut Cursor<'_>, u32, bool) -> Result<Stmt, ReadError>> State
     /// The clauses of a `switch`, in braces.
     #[tactic(auto, unfolding(crate::specs::Read::clauses_of))]
     pub fn clauses(&self, tokens: &mut Cursor<'_>) -> Result<Items<Clause>, ReadError>
-        requires { Nests self.now.depth (F.pre self.now.statement) (F.post self.now.statement) }
+        requires { ReadsInner self.now.depth (F.pre self.now.statement) (F.post self.now.statement) }
         ensures { Reads (spec.clauses self.now.inits self.now.depth tokens.old) result tokens.new }
     {
         let left = tokens.left();

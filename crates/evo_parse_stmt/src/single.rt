@@ -4,9 +4,9 @@ ghost use Rattle.std.specs.Prelude.{◌≡◌, ◌<◌, ℕ, List, false};
 ghost use Rattle.evo_combinators.specs.Attempt.{attempt};
 ghost use Rattle.evo_combinators.specs.Reader.{Reads};
 ghost use Rattle.evo_tree.specs.Statements as tree;
-ghost use Rattle.evo_parse_stmt.specs.Nests.{Nests};
+ghost use Rattle.evo_parse_stmt.specs.ReadsInner.{ReadsInner};
 ghost use Rattle.evo_parse_stmt.specs.Read as read;
-ghost use Rattle.evo_parse_stmt.specs.Turns as spec;
+ghost use Rattle.evo_parse_stmt.specs.AtDepth as spec;
 
 use crate::fault::is_refusal;
 use crate::lead::{expect_here, expect_later, introducer, operator, starts_init};
@@ -66,7 +66,7 @@ impl<F: Fn(Global, &mut Cursor<'_>, u32, bool) -> Result<Stmt, ReadError>> State
 
     #[tactic(auto, unfolding(crate::specs::Read::branch))]
     fn branch(&self, tokens: &mut Cursor<'_>) -> Result<Branch, ReadError>
-        requires { Nests self.now.depth (F.pre self.now.statement) (F.post self.now.statement) }
+        requires { ReadsInner self.now.depth (F.pre self.now.statement) (F.post self.now.statement) }
         ensures { Reads (spec.branch self.now.inits self.now.depth tokens.old) result tokens.new }
     {
         let condition = expr(self.alloc, tokens, self.depth, true)?;
@@ -76,7 +76,7 @@ impl<F: Fn(Global, &mut Cursor<'_>, u32, bool) -> Result<Stmt, ReadError>> State
 
     #[tactic(auto, unfolding(crate::specs::Read::behind_else))]
     fn behind_else(&self, tokens: &mut Cursor<'_>) -> Result<Branch, ReadError>
-        requires { Nests self.now.depth (F.pre self.now.statement) (F.post self.now.statement) }
+        requires { ReadsInner self.now.depth (F.pre self.now.statement) (F.post self.now.statement) }
         ensures { Reads (spec.behind_else self.now.inits self.now.depth tokens.old) result tokens.new }
     {
         if let Some(_) = tokens.mark(Terminal::If) {
@@ -87,7 +87,7 @@ impl<F: Fn(Global, &mut Cursor<'_>, u32, bool) -> Result<Stmt, ReadError>> State
     }
 
     fn else_at(&self, tokens: &mut Cursor<'_>, ended: bool) -> Result<Branch, ReadError>
-        requires { Nests self.now.depth (F.pre self.now.statement) (F.post self.now.statement) }
+        requires { ReadsInner self.now.depth (F.pre self.now.statement) (F.post self.now.statement) }
         ensures { Reads (spec.else_at self.now.inits self.now.depth ended tokens.old) result tokens.new }
     {
         if ended {
@@ -98,7 +98,7 @@ impl<F: Fn(Global, &mut Cursor<'_>, u32, bool) -> Result<Stmt, ReadError>> State
     }
 
     fn try_else(&self, tokens: &mut Cursor<'_>, ended: bool) -> Result<Option<Branch>, ReadError>
-        requires { Nests self.now.depth (F.pre self.now.statement) (F.post self.now.statement) }
+        requires { ReadsInner self.now.depth (F.pre self.now.statement) (F.post self.now.statement) }
         ensures { Reads (attempt (spec.else_at self.now.inits self.now.depth ended) tokens.old) result tokens.new }
     {
         let start = tokens.copy();
@@ -120,7 +120,7 @@ impl<F: Fn(Global, &mut Cursor<'_>, u32, bool) -> Result<Stmt, ReadError>> State
         tokens: &mut Cursor<'_>,
         before: bool,
     ) -> Result<Items<Branch>, ReadError>
-        requires { Nests self.now.depth (F.pre self.now.statement) (F.post self.now.statement) }
+        requires { ReadsInner self.now.depth (F.pre self.now.statement) (F.post self.now.statement) }
         ensures { Reads (spec.further_branches self.now.inits self.now.depth before tokens.old) result tokens.new }
     {
         let mut found = Items::new(self.alloc);
@@ -137,7 +137,7 @@ impl<F: Fn(Global, &mut Cursor<'_>, u32, bool) -> Result<Stmt, ReadError>> State
 
     #[tactic(auto, unfolding(crate::specs::Read::rest_of_if))]
     fn rest_of_if(&self, tokens: &mut Cursor<'_>, place: Place) -> Result<Stmt, ReadError>
-        requires { Nests self.now.depth (F.pre self.now.statement) (F.post self.now.statement) }
+        requires { ReadsInner self.now.depth (F.pre self.now.statement) (F.post self.now.statement) }
         ensures { Reads (spec.rest_of_if self.now.inits self.now.depth place tokens.old) result tokens.new }
     {
         let first = self.branch(tokens)?;
@@ -147,7 +147,7 @@ impl<F: Fn(Global, &mut Cursor<'_>, u32, bool) -> Result<Stmt, ReadError>> State
 
     #[tactic(auto, unfolding(crate::specs::Read::rest_of_while))]
     fn rest_of_while(&self, tokens: &mut Cursor<'_>, place: Place) -> Result<Stmt, ReadError>
-        requires { Nests self.now.depth (F.pre self.now.statement) (F.post self.now.statement) }
+        requires { ReadsInner self.now.depth (F.pre self.now.statement) (F.post self.now.statement) }
         ensures { Reads (spec.rest_of_while self.now.inits self.now.depth place tokens.old) result tokens.new }
     {
         let condition = expr(self.alloc, tokens, self.depth, true)?;
@@ -189,7 +189,7 @@ impl<F: Fn(Global, &mut Cursor<'_>, u32, bool) -> Result<Stmt, ReadError>> State
 
     #[tactic(auto, unfolding(crate::specs::Read::rest_of_switch))]
     fn rest_of_switch(&self, tokens: &mut Cursor<'_>, place: Place) -> Result<Stmt, ReadError>
-        requires { Nests self.now.depth (F.pre self.now.statement) (F.post self.now.statement) }
+        requires { ReadsInner self.now.depth (F.pre self.now.statement) (F.post self.now.statement) }
         ensures { Reads (spec.rest_of_switch self.now.inits self.now.depth place tokens.old) result tokens.new }
     {
         let subject = expr(self.alloc, tokens, self.depth, true)?;
@@ -256,7 +256,7 @@ impl<F: Fn(Global, &mut Cursor<'_>, u32, bool) -> Result<Stmt, ReadError>> State
     /// The statements that leave something, and those without a word of their own.
     #[tactic(auto, unfolding(crate::specs::Read::leaving))]
     fn leaving(&self, tokens: &mut Cursor<'_>) -> Result<Stmt, ReadError>
-        requires { Nests self.now.depth (F.pre self.now.statement) (F.post self.now.statement) }
+        requires { ReadsInner self.now.depth (F.pre self.now.statement) (F.post self.now.statement) }
         ensures { Reads (spec.leaving self.now.inits self.now.depth tokens.old) result tokens.new }
     {
         if let Some(place) = tokens.mark(Terminal::Return) {
@@ -277,7 +277,7 @@ impl<F: Fn(Global, &mut Cursor<'_>, u32, bool) -> Result<Stmt, ReadError>> State
     /// A statement.
     #[tactic(auto, unfolding(crate::specs::Read::stmt_of))]
     pub fn statement_here(&self, tokens: &mut Cursor<'_>) -> Result<Stmt, ReadError>
-        requires { Nests self.now.depth (F.pre self.now.statement) (F.post self.now.statement) }
+        requires { ReadsInner self.now.depth (F.pre self.now.statement) (F.post self.now.statement) }
         ensures { Reads (spec.stmt_of self.now.inits self.now.depth tokens.old) result tokens.new }
     {
         if let Some((place, introducer)) = introducer(tokens) {

@@ -2,7 +2,7 @@
 use Rattle.std.proofs.Common.{◌≡◌, ℕ, List, [], ◌∷◌, ◌++◌, map, Bool, codes, Option, Some, None, refl, sym, ◌∙◌, ap, ap₂}
 use Rattle.std.specs.Fmt.{decimal}
 use Rattle.evo_base.specs.declared.place.Place.{Place}
-use Rattle.evo_round_trip.proofs.Alike.{All_like}
+use Rattle.evo_round_trip.proofs.Alike.{AllLike}
 use Rattle.evo_tree.specs.declared.name.Identifier.{Identifier}
 use Rattle.evo_tree.specs.declared.expression.Expr.{Expr, Expr-F, out-Expr, roll-Expr, map-Expr, fold_out-Expr}
 use Rattle.evo_tree.specs.declared.expression.Expr.TheOpen as f
@@ -72,7 +72,7 @@ self_type_same p q = bare_is (e.SelfType p) (f.SelfType p) (outs-SelfType p) ∙
 
 -- ---- lists
 
-pub like_map : {A B : Type 0} (g : A → B) (xs ys : List A) → All_like (λ x y. g x ≡ g y) xs ys → map g xs ≡ map g ys
+pub like_map : {A B : Type 0} (g : A → B) (xs ys : List A) → AllLike (λ x y. g x ≡ g y) xs ys → map g xs ≡ map g ys
 like_map g [] [] h = refl
 like_map g [] (y ∷ ys) h = absurd h
 like_map g (x ∷ xs) [] h = absurd h

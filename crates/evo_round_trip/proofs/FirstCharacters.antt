@@ -211,11 +211,11 @@ token_or None None k n e = absurd cc
 token_or None (Some (j, m)) k n e = (refl, some_front j k m n e)
 
 -- a token at the front of a text has a first character, which is no white space
-pub record Token_at (text : List ℕ) (k : TokenKind) (n : ℕ) : Type 0 where
+pub record TokenAt (text : List ℕ) (k : TokenKind) (n : ℕ) : Type 0 where
   pub white : white_of text ≡ None
   pub first : First text k n
 
-pub token_at : (text : List ℕ) (k : TokenKind) (n : ℕ) → front_of text ≡ at_front (front.Token k) n → Token_at text k n
+pub token_at : (text : List ℕ) (k : TokenKind) (n : ℕ) → front_of text ≡ at_front (front.Token k) n → TokenAt text k n
 unfolding front_of
 token_at [] k n e = absurd cc
 token_at (c ∷ text) k n e = let both = token_or (white_of (c ∷ text)) (first_of (c ∷ text)) k n e in record { white = both.0; first = first_is (c ∷ text) k n both.1 }

@@ -7,7 +7,7 @@ use Rattle.evo_combinators.specs.Guard.{Run}
 use Rattle.evo_tree.specs.Pieces.{Piece}
 use Rattle.evo_tree.specs.Expressions.{Rule}
 use Rattle.evo_round_trip.proofs.Written.{Written, Sound, joined}
-use Rattle.evo_round_trip.proofs.Matching.{Genuine}
+use Rattle.evo_round_trip.proofs.Matching.{FromText}
 use Rattle.evo_round_trip.proofs.Printed.{Text, any_begins, begins, begins_within, begins_append, is_apart, is_flush, is_free, Matched, matched_parts, genuine_left, genuine_right, joined_append, sound_append}
 use Rattle.evo_round_trip.proofs.Prints.{Writes, print_behind}
 use Rattle.evo_round_trip.proofs.Heads.{is_calm, calm_flush, apart_free}
@@ -46,7 +46,7 @@ pub record Fronted {X : Type 0} (bare : X → X) (num : X → ℕ) (single : ℕ
 
 -- some genuine pieces spell it
 abbrev pub Fine : {X : Type 0} → (List X → Rule X) → X → Type 0
-Fine S x = (us : List Piece) × Genuine us × S [] us x
+Fine S x = (us : List Piece) × FromText us × S [] us x
 
 abbrev pub AllFine : {X : Type 0} → (List X → Rule X) → List X → Type 0
 AllFine S [] = Unit {0}
@@ -66,10 +66,10 @@ fine_filter S p (x ∷ xs) f = go (p x) f.0 (fine_filter S p xs f.1)
 
 module _ {X : Type 0} {bare : X → X} {num : X → ℕ} {single : ℕ → Bool} {S : List X → Rule X} {text : X → Text} (laws : Fronted bare num single S text) where
   -- what is spelled has at most one of each kind
-  pub spelled_fine : (s : List X) (us : List Piece) (xs : List X) → Genuine us → Run S next s us xs → AtMostOne num single s → AtMostOne num single (s ++ xs) × AllFine S xs
+  pub spelled_fine : (s : List X) (us : List Piece) (xs : List X) → FromText us → Run S next s us xs → AtMostOne num single s → AtMostOne num single (s ++ xs) × AllFine S xs
   spelled_fine s us [] gen run one = (subst (AtMostOne num single) (sym (append-nil s)) one, tt)
   spelled_fine s us (x ∷ xs) gen (vs, ws, at, here, more) one =
-      let gen' : Genuine (vs ++ ws) = subst Genuine at gen in
+      let gen' : FromText (vs ++ ws) = subst FromText at gen in
       let rest = spelled_fine (s ++ x ∷ []) ws xs (genuine_right vs ws gen') more (one_more num single s x one (laws.may s vs x here)) in
       (subst (AtMostOne num single) (append_assoc s (x ∷ []) xs) rest.0, ((vs, genuine_left vs ws gen', laws.alone s vs x here), rest.1))
 

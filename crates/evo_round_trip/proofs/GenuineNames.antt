@@ -11,11 +11,11 @@ use Rattle.unicode_ident.proofs.IdentLemmas.{is_xid_continue-ascii, is_xid_start
 use lib.Utf8.{scalar, scalars}
 use Rattle.evo_base.specs.declared.token.TokenKind.{TokenKind}
 use Rattle.evo_base.specs.declared.token.TokenKind.TheVariants as kind
-use Rattle.evo_lex.specs.declared.spot.Spot.{Spot}
+use Rattle.evo_lex.specs.declared.spot.Position.{Position}
 use Rattle.evo_lex.specs.declared.class.Class.TheVariants as class
 use Rattle.evo_lex.specs.Characters.{begins_identifier}
 use Rattle.evo_lex.specs.Front.{kind_of, run_behind, mark_of}
-use Rattle.evo_lex.specs.Cut.{beyond, token_between}
+use Rattle.evo_lex.specs.Tokenization.{beyond, token_between}
 use Rattle.evo_lex.specs.Identifier.{begins_well}
 use Rattle.evo_lex.proofs.Spots.{bytes}
 use Rattle.evo_tree.specs.Pieces.{text_of}
@@ -32,7 +32,7 @@ pub encode_split : (n : ℕ) (cs : List ℕ) → encode_utf8_all cs ≡ encode_u
 encode_split n cs = ap encode_utf8_all (sym (take-append-drop n cs)) ∙ encodes-append (take n cs) (drop n cs)
 
 -- a token's text are the bytes of its characters
-pub token_text : (text pre cs : List ℕ) (s : Spot) (n : ℕ) (k : TokenKind) → text ≡ pre ++ encode_utf8_all cs → length pre ≡ s.at → text_of text (token_between k s (beyond (take n cs) s)) ≡ encode_utf8_all (take n cs)
+pub token_text : (text pre cs : List ℕ) (s : Position) (n : ℕ) (k : TokenKind) → text ≡ pre ++ encode_utf8_all cs → length pre ≡ s.at → text_of text (token_between k s (beyond (take n cs) s)) ≡ encode_utf8_all (take n cs)
 token_text text pre cs s n k whole at =
     let size : length (encode_utf8_all (take n cs)) ≡ (beyond (take n cs) s).at - s.at = let b = bytes (take n cs) s in omega arith in
     ap (λ (l : List ℕ). take ((beyond (take n cs) s).at - s.at) (drop s.at l)) whole
@@ -43,7 +43,7 @@ token_text text pre cs s n k whole at =
 pub text_on : (text pre cs : List ℕ) (n : ℕ) → text ≡ pre ++ encode_utf8_all cs → text ≡ (pre ++ encode_utf8_all (take n cs)) ++ encode_utf8_all (drop n cs)
 text_on text pre cs n whole = whole ∙ ap (λ (l : List ℕ). pre ++ l) (encode_split n cs) ∙ sym (append_assoc pre (encode_utf8_all (take n cs)) (encode_utf8_all (drop n cs)))
 
-pub at_on : (pre cs : List ℕ) (s : Spot) (n : ℕ) → length pre ≡ s.at → length (pre ++ encode_utf8_all (take n cs)) ≡ (beyond (take n cs) s).at
+pub at_on : (pre cs : List ℕ) (s : Position) (n : ℕ) → length pre ≡ s.at → length (pre ++ encode_utf8_all (take n cs)) ≡ (beyond (take n cs) s).at
 at_on pre cs s n at = let l = length-append pre (encode_utf8_all (take n cs)) in let b = bytes (take n cs) s in omega arith
 
 pub scalars_take : (n : ℕ) (cs : List ℕ) → scalars cs ≡ true → scalars (take n cs) ≡ true

@@ -11,21 +11,21 @@ use Rattle.evo_base.specs.declared.token.TokenKind.{TokenKind}
 use Rattle.evo_base.specs.declared.token.TokenKind.TheVariants as kind
 use Rattle.evo_base.specs.declared.token.Token.{Token}
 use Rattle.evo_combinators.specs.Laws.{first}
-use Rattle.evo_lex.specs.declared.spot.Spot.{Spot}
+use Rattle.evo_lex.specs.declared.spot.Position.{Position}
 use Rattle.evo_lex.specs.declared.class.Class.TheVariants as class
 use Rattle.evo_lex.specs.declared.front.Front.{Front}
 use Rattle.evo_lex.specs.declared.front.Front.TheVariants as front
 use Rattle.evo_lex.specs.Characters.{is_white, is_operator, run_of}
 use Rattle.evo_lex.specs.Front.{front_of, white_of, white_or, first_of, starts, comment_from, operator_run, operator_of, is_operator_word}
-use Rattle.evo_lex.specs.Cut.{Cut, CutFrom, behind, beyond, token_between}
-use Rattle.evo_lex.specs.Cut.CutFrom.{ended, white, token}
+use Rattle.evo_lex.specs.Tokenization.{Tokenization, CutFrom, behind, beyond, token_between}
+use Rattle.evo_lex.specs.Tokenization.CutFrom.{ended, white, token}
 use Rattle.evo_lex.specs.Sides.{is_apart, is_closing, is_separator, white_left, white_right}
 use Rattle.evo_lex.proofs.Spots.{forward}
 use Rattle.evo_tree.specs.declared.terminal.Terminal.{Terminal}
 use Rattle.evo_tree.specs.declared.terminal.Role.{Role}
 use Rattle.evo_tree.specs.Terminals.{terminal_of, number_of}
 use Rattle.evo_tree.specs.Pieces.{piece, pieces, pieces_from, text_of, role_number, is_integer_kind}
-use Rattle.evo_round_trip.proofs.Matching.{IsName, IsGenuine, Genuine, Parted, Unnumbered, is_sign, is_attached}
+use Rattle.evo_round_trip.proofs.Matching.{IsName, IsGenuine, FromText, Parted, Unnumbered, is_sign, is_attached}
 use Rattle.evo_round_trip.proofs.UnnumberedPieces.{no_integer}
 use Rattle.evo_round_trip.proofs.FirstCharacters.{at_front, token_at, operator_is}
 use Rattle.evo_round_trip.proofs.NoFeeds.{when_some}
@@ -77,7 +77,7 @@ white_front None None n e = absurd cc
 white_front None (Some (k, m)) n e = absurd (let f = ap white_part e in cc)
 
 -- a spot behind white space is a later one
-white_moves : (text : List ℕ) (n : ℕ) (s : Spot) → front_of text ≡ at_front front.White n → s.at < (beyond (take n text) s).at
+white_moves : (text : List ℕ) (n : ℕ) (s : Position) → front_of text ≡ at_front front.White n → s.at < (beyond (take n text) s).at
 unfolding front_of
 white_moves [] n s e = absurd cc
 white_moves (c ∷ text) zero s e = absurd (let f = white_size (c ∷ text) zero (white_front (white_of (c ∷ text)) (first_of (c ∷ text)) zero e) in omega arith)
@@ -86,16 +86,16 @@ white_moves (c ∷ text) (suc n) s e = let one = (len_utf8_bounds c).0 in let on
 -- ---- what a cut begins with
 
 -- the first token stands later, or right here
-abbrev Begins : Spot → List ℕ → List Token → Type 0
+abbrev Begins : Position → List ℕ → List Token → Type 0
 Begins s cs [] = Unit {0}
 Begins s cs (u ∷ us) = (s.at < u.start) ⊎ ((n : ℕ) × (front_of cs ≡ at_front (front.Token u.kind) n) × (u ≡ token_between u.kind s (beyond (take n cs) s)))
 
-later : (s s' : Spot) (cs cs' : List ℕ) (us : List Token) → s.at < s'.at → Begins s' cs' us → Begins s cs us
+later : (s s' : Position) (cs cs' : List ℕ) (us : List Token) → s.at < s'.at → Begins s' cs' us → Begins s cs us
 later s s' cs cs' [] lt b = tt
 later s s' cs cs' (u ∷ us) lt (inl more) = inl (omega arith)
 later s s' cs cs' (u ∷ us) lt (inr here) = inl (let e = ap (λ (v : Token). v.start) here.2 in omega arith)
 
-begins : {s : Spot} {cs : List ℕ} {us : List Token} → CutFrom s cs us → Begins s cs us
+begins : {s : Position} {cs : List ℕ} {us : List Token} → CutFrom s cs us → Begins s cs us
 begins ended = tt
 begins {s} {cs} (white {n} {tokens} e rest) = later s (beyond (take n cs) s) cs (drop n cs) tokens (white_moves cs n s e) (begins rest)
 begins (token {n} e rest) = inr (n, e, refl)
@@ -182,7 +182,7 @@ module _ (text : List ℕ) where
     self_type = λ i. self_text u.kind (text_of text u) (ap (λ (x : Terminal). number_of x == 26) i);
   }
 
-  parted : (pre cs : List ℕ) (s : Spot) (n : ℕ) (k : TokenKind) (before : Option Token) (us : List Token) → text ≡ pre ++ encode_utf8_all cs → length pre ≡ s.at → front_of cs ≡ at_front (front.Token k) n
+  parted : (pre cs : List ℕ) (s : Position) (n : ℕ) (k : TokenKind) (before : Option Token) (us : List Token) → text ≡ pre ++ encode_utf8_all cs → length pre ≡ s.at → front_of cs ≡ at_front (front.Token k) n
       → Begins (beyond (take n cs) s) (drop n cs) us
       → Parted (piece text before (token_between k s (beyond (take n cs) s)) (first us)) (pieces_from text (Some (token_between k s (beyond (take n cs) s))) us)
   parted pre cs s n k before [] whole at e b = tt
@@ -207,7 +207,7 @@ module _ (text : List ℕ) where
   unnumbered before u [] = tt
   unnumbered before u (v ∷ us) = no_integer text before (first us) u v
 
-  genuine_from : {s : Spot} {cs : List ℕ} {us : List Token} → CutFrom s cs us → (pre : List ℕ) (before : Option Token) → text ≡ pre ++ encode_utf8_all cs → length pre ≡ s.at → scalars cs ≡ true → Genuine (pieces_from text before us)
+  genuine_from : {s : Position} {cs : List ℕ} {us : List Token} → CutFrom s cs us → (pre : List ℕ) (before : Option Token) → text ≡ pre ++ encode_utf8_all cs → length pre ≡ s.at → scalars cs ≡ true → FromText (pieces_from text before us)
   genuine_from ended pre before whole at ok = tt
   genuine_from {s} {cs} (white {n} e rest) pre before whole at ok = genuine_from rest (pre ++ encode_utf8_all (take n cs)) before (text_on text pre cs n whole) (at_on pre cs s n at) (scalars_drop n cs ok)
   genuine_from {s} {cs} (token {n} {k} {tokens} e rest) pre before whole at ok =
@@ -218,5 +218,5 @@ module _ (text : List ℕ) where
       )
 
 -- the pieces of any text that is cut
-pub genuine : (text : List ℕ) (tokens : List Token) → Cut text tokens → Genuine (pieces text tokens)
+pub genuine : (text : List ℕ) (tokens : List Token) → Tokenization text tokens → FromText (pieces text tokens)
 genuine text tokens is = genuine_from text is.cut [] None (sym (encodes-chars text is.utf8)) refl (scalars-chars text is.utf8)

@@ -1,7 +1,7 @@
 -- What spells a statement that is written `get` is the name `get` alone.
 use Rattle.std.proofs.Common.{◌≡◌, ℕ, zero, suc, List, ◌∷◌, ◌++◌, true, false, codes, Option, Some, refl, sym, ◌∙◌, ap, subst, inl, inr, append-nil, append_assoc}
 use Rattle.evo_base.specs.declared.place.Place.{Place}
-use Rattle.evo_combinators.specs.Rule.{Only, Nothing, Led, Or, Then}
+use Rattle.evo_combinators.specs.Rule.{Empty, Fail, TokenThen, Or, Then}
 use Rattle.evo_tree.specs.declared.name.Identifier.{Identifier}
 use Rattle.evo_tree.specs.declared.name.TypeName.{TypeName}
 use Rattle.evo_tree.specs.declared.expression.Expr.{Expr}
@@ -12,7 +12,7 @@ use Rattle.evo_tree.specs.declared.statement.Stmt.{Stmt}
 use Rattle.evo_tree.specs.declared.statement.Stmt.TheVariants as s
 use Rattle.evo_tree.specs.Pieces.{Piece}
 use Rattle.evo_tree.specs.Expressions.{Rule, IsExpr}
-use Rattle.evo_tree.specs.Statements.{assigns_to, Branch, Rest_of_assignment, Action, Stmt_of, IsCall, IsStmt}
+use Rattle.evo_tree.specs.Statements.{assigns_to, Branch, AssignmentTail, Action, StmtOf, IsCall, IsStmt}
 use Rattle.evo_tree.specs.Canonical.{Text, expr_text, assignment_text}
 use Rattle.evo_print.specs.Texts.{words_of}
 use Rattle.evo_round_trip.proofs.StatementTrees.{local_words, discard_words, assign_words, expr_words, if_words, while_words, return_words, break_words, continue_words, switch_words}
@@ -26,17 +26,17 @@ abbrev NoGet : Stmt → Type 0
 NoGet x = IsGet x → ⊥
 
 -- what S spells is written `get` only where it is the name
-pub record Gets_stated (S : Rule Stmt) : Type 0 where
+pub record GetsStated (S : Rule Stmt) : Type 0 where
   pub holds : (us : List Piece) (x : Stmt) (n : ℕ) → S us x → words_of x n ≡ codes "get" → is_lone_get us ≡ true
 
-gets_or : {S R : Rule Stmt} → Gets_stated S → Gets_stated R → Gets_stated (Or S R)
+gets_or : {S R : Rule Stmt} → GetsStated S → GetsStated R → GetsStated (Or S R)
 gets_or {S} {R} gs gr = record { holds = go }
   where
     go : (us : List Piece) (x : Stmt) (n : ℕ) → Or S R us x → words_of x n ≡ codes "get" → is_lone_get us ≡ true
     go us x n (inl s) is = gs.holds us x n s is
     go us x n (inr r) is = gr.holds us x n r is
 
-gets_never : {S : Rule Stmt} → All NoGet S → Gets_stated S
+gets_never : {S : Rule Stmt} → All NoGet S → GetsStated S
 gets_never never = record { holds = λ us x n s is. absurd (never.holds us x s (n, is)) }
 
 no_get_by : (x : Stmt) (z : ℕ → Text) → ((n : ℕ) → words_of x n ≡ z n) → ((n : ℕ) → starts_get (z n) ≡ false) → NoGet x
@@ -59,17 +59,17 @@ module _ (d : ℕ) (E : Rule Expr) (S : Rule Stmt) (law : Gets E) where
   unfolding HasSome
   branches = all_then (λ y. all_then (λ b. all_only (y, b, refl)))
 
-  assigned : (y : Expr) → All NoGet (Led (assigns_to y) (λ o. Then E (λ z. Only (s.Assign y o z))))
+  assigned : (y : Expr) → All NoGet (TokenThen (assigns_to y) (λ o. Then E (λ z. Empty (s.Assign y o z))))
   assigned y = all_led (λ o. all_then (λ z. all_only (λ is. no_get_behind 32 refl refl (expr_text y) (assignment_text o ++ (codes " " ++ expr_text z)) (sym (simp append_assoc at assign_words y o z is.0) ∙ is.1))))
 
-  action_gets : Gets_stated (Action false d E (IsCall d) S)
+  action_gets : GetsStated (Action false d E (IsCall d) S)
   action_gets = record { holds = λ us x n a is. let (y, vs, ws, at, s', r) = a in ap is_lone_get at ∙ go x y n vs ws (law.holds vs y s') r is }
     where
-      go : (x : Stmt) (y : Expr) (n : ℕ) (vs ws : List Piece) → (expr_text y ≡ codes "get" → is_lone_get vs ≡ true) → Rest_of_assignment false d E (IsCall d) S y ws x → words_of x n ≡ codes "get" → is_lone_get (vs ++ ws) ≡ true
+      go : (x : Stmt) (y : Expr) (n : ℕ) (vs ws : List Piece) → (expr_text y ≡ codes "get" → is_lone_get vs ≡ true) → AssignmentTail false d E (IsCall d) S y ws x → words_of x n ≡ codes "get" → is_lone_get (vs ++ ws) ≡ true
       go x y n vs ws law (inl r) is = absurd ((assigned y).holds ws x r (n, is))
       go x y n vs ws law (inr (nil, named)) is = ap is_lone_get (ap (λ z. vs ++ z) nil ∙ append-nil vs) ∙ law (sym (expr_words y n) ∙ ap (λ z. words_of z n) (sym named) ∙ is)
 
-  statement_of_gets : Gets_stated (Stmt_of false d E (IsCall d) S)
+  statement_of_gets : GetsStated (StmtOf false d E (IsCall d) S)
   statement_of_gets = gets_or (gets_never (all_led (λ i. all_led (λ n. all_then (λ ty. all_led (λ c. all_then (λ y. all_only (locals i.0 i.1 n ty y))))))))
       (gets_or (gets_never (all_led (λ p. all_led (λ c. all_then (λ y. all_only (no_get_by (s.Discard p y) _ (λ n. discard_words p y n) (λ n. refl)))))))
       (gets_or (gets_never (all_led (λ p. all_then_by branches (λ b some. all_then (λ bs. all_only (ifs p b bs some))))))
@@ -80,7 +80,7 @@ module _ (d : ℕ) (E : Rule Expr) (S : Rule Stmt) (law : Gets E) where
       (gets_or (gets_never (all_led (λ p. all_then (λ y. all_then (λ cs. all_only (no_get_by (s.Switch p y cs) _ (λ n. switch_words p y cs n) (λ n. refl))))))) action_gets)))))))
 
 -- a statement that is written `get` is the name
-pub statement_gets : (d : ℕ) → Gets_stated (IsStmt false d)
+pub statement_gets : (d : ℕ) → GetsStated (IsStmt false d)
 unfolding IsStmt
-statement_gets zero = statement_of_gets zero (IsExpr zero) Nothing (expression_gets zero)
+statement_gets zero = statement_of_gets zero (IsExpr zero) Fail (expression_gets zero)
 statement_gets (suc d) = statement_of_gets (suc d) (IsExpr (suc d)) (IsStmt false d) (expression_gets (suc d))

@@ -7,7 +7,7 @@ use Rattle.std.specs.Str.{bytes_eq}
 use Rattle.std.proofs.lemmas.Slice.Eq.{bytes_eq-Decides}
 use Rattle.std.proofs.lemmas.Bool.{leb-true}
 use Rattle.evo_base.specs.declared.place.Place.{Place}
-use Rattle.evo_combinators.specs.Rule.{Only, Nothing, Led, Or, Then, Many}
+use Rattle.evo_combinators.specs.Rule.{Empty, Fail, TokenThen, Or, Then, Many}
 use Rattle.evo_lex.specs.Front.{integer_value}
 use Rattle.evo_tree.specs.declared.name.Identifier.{Identifier}
 use Rattle.evo_tree.specs.declared.expression.InfixOperator.{InfixOperator}
@@ -17,7 +17,7 @@ use Rattle.evo_tree.specs.declared.expression.Expr.{Expr}
 use Rattle.evo_tree.specs.declared.expression.Expr.TheVariants as e
 use Rattle.evo_tree.specs.declared.terminal.Terminal.TheVariants as t
 use Rattle.evo_tree.specs.Pieces.{Piece, is_terminal, is_identifier, mark, call, identifier, integer}
-use Rattle.evo_tree.specs.Expressions.{Rule, Nested, chain, members, one_operand, Rest_of_arguments, Arguments, Member, Primary, Post, Unary_of, Unary, Chain, Pair, Levels, IsExpr}
+use Rattle.evo_tree.specs.Expressions.{Rule, Nested, chain, members, one_operand, ArgumentsTail, Arguments, Member, Primary, Postfix, UnaryOf, Unary, Chain, Pair, Levels, IsExpr}
 use Rattle.evo_tree.specs.Declarations.{is_get}
 use Rattle.evo_tree.specs.Canonical.{Text, expr_text}
 use Rattle.evo_print.proofs.ExpressionTexts.{super_text, implicit_text, parenthesised_text, sign_text, path_text, chain_text}
@@ -60,10 +60,10 @@ pub record All {B : Type 0} (P : B → Type 0) (S : Rule B) : Type 0 where
   pub holds : (us : List Piece) (b : B) → S us b → P b
 
 module _ {B : Type 0} {P : B → Type 0} where
-  pub all_only : {b : B} → P b → All P (Only b)
+  pub all_only : {b : B} → P b → All P (Empty b)
   all_only h = record { holds = λ us b s. subst P (sym s.1) h }
 
-  pub all_nothing : All P Nothing
+  pub all_nothing : All P Fail
   all_nothing = record { holds = λ us b s. absurd s }
 
   pub all_or : {S R : Rule B} → All P S → All P R → All P (Or S R)
@@ -74,13 +74,13 @@ module _ {B : Type 0} {P : B → Type 0} where
       go us b (inr r) = ar.holds us b r
 
   module _ {C : Type 0} {f : Piece → Option C} {S : C → Rule B} where
-    pub all_led_by : ((u : Piece) (c : C) → f u ≡ Some c → All P (S c)) → All P (Led f S)
+    pub all_led_by : ((u : Piece) (c : C) → f u ≡ Some c → All P (S c)) → All P (TokenThen f S)
     all_led_by h = record { holds = λ us b s. let (u, c, vs, at, takes, r) = s in (h u c takes).holds vs b r }
 
-    pub all_led : ((c : C) → All P (S c)) → All P (Led f S)
+    pub all_led : ((c : C) → All P (S c)) → All P (TokenThen f S)
     all_led h = all_led_by (λ u c takes. h c)
 
-    pub all_nested : (d : ℕ) → All P (Led f S) → All P (Nested d f S)
+    pub all_nested : (d : ℕ) → All P (TokenThen f S) → All P (Nested d f S)
     all_nested zero h = record { holds = λ us b s. absurd s }
     all_nested (suc d) h = h
 
@@ -110,7 +110,7 @@ gets_or {S} {R} gs gr = record { holds = go }
     go us x (inl s) is = gs.holds us x s is
     go us x (inr r) is = gr.holds us x r is
 
-gets_nothing : Gets Nothing
+gets_nothing : Gets Fail
 gets_nothing = record { holds = λ us x s is. absurd s }
 
 gets_never : {S : Rule Expr} → All NoGet S → Gets S
@@ -136,7 +136,7 @@ module _ (d : ℕ) (I O : Rule Expr) where
       both_and (is_terminal t.Identifier u) (bytes_eq u.text (codes "get")) (and_both (is_terminal t.Identifier u) _ (identifier_is u n takes)).0
       ((bytes_eq-Decides u.text (codes "get")).1 (text ∙ sym (append-nil n.text) ∙ sym (name_is n None) ∙ is))
 
-  name_gets : Gets (Led identifier (λ n. Then (Arguments d I O) (λ as'. Only (e.Name n as'))))
+  name_gets : Gets (TokenThen identifier (λ n. Then (Arguments d I O) (λ as'. Empty (e.Name n as'))))
   unfolding IsCalled
   name_gets = record {
     holds = λ us x s is.
@@ -144,7 +144,7 @@ module _ (d : ℕ) (I O : Rule Expr) where
         ap is_lone_get at ∙ ap (λ z. is_lone_get (u ∷ z)) cut ∙ ap (λ z. is_lone_get (u ∷ (ws ++ z))) nil ∙ go u n takes ws xs args (ap expr_text (sym named) ∙ is);
   }
     where
-      called : All IsCalled (Nested d call (λ _. Then (Rest_of_arguments d I O) (λ as'. Only (Some as'))))
+      called : All IsCalled (Nested d call (λ _. Then (ArgumentsTail d I O) (λ as'. Empty (Some as'))))
       called = all_nested d (all_led (λ c. all_then (λ as'. all_only (as', refl))))
 
       go : (u : Piece) (n : Identifier) → identifier u ≡ Some n → (ws : List Piece) (xs : Call) → Arguments d I O ws xs → IsGet (e.Name n xs) → is_lone_get (u ∷ (ws ++ [])) ≡ true
@@ -181,7 +181,7 @@ module _ (d : ℕ) (I O : Rule Expr) where
       (all_or (all_nested d (all_led (λ c. all_then (λ x. all_led (λ c'. all_only (no_get_by (e.Parenthesised c x) _ (parenthesised_text (e.Parenthesised c x) c x refl) refl))))))
       (all_or (all_led (λ c. all_then (λ m. all_only (no_get_by (e.ImplicitMember c m.0 m.1) _ (implicit_text (e.ImplicitMember c m.0 m.1) c m.0 m.1 refl) refl)))) all_nothing)))))))))))
 
-  links_gets : Gets (Post d I O)
+  links_gets : Gets (Postfix d I O)
   links_gets = record {
     holds = λ us y s is.
         let (x, vs, ws, at, s', (ms, ns, rest, cut, many, (nil, named))) = s in
@@ -196,12 +196,12 @@ module _ (d : ℕ) (I O : Rule Expr) where
   signed c prefix.Minus x = no_get_by (e.Prefix c prefix.Minus x) _ (sign_text (e.Prefix c prefix.Minus x) c prefix.Minus x refl) refl
   signed c prefix.Not x = no_get_by (e.Prefix c prefix.Not x) _ (sign_text (e.Prefix c prefix.Not x) c prefix.Not x refl) refl
 
-  unary_of_gets : Gets (Unary_of d I O)
+  unary_of_gets : Gets (UnaryOf d I O)
   unary_of_gets = gets_or (gets_never (all_nested d (all_led (λ s. all_then (λ x. all_only (signed s.0 s.1 x)))))) links_gets
 
 unary_gets : (d : ℕ) → Gets (Unary d)
 unfolding Unary
-unary_gets zero = unary_of_gets zero Nothing Nothing
+unary_gets zero = unary_of_gets zero Fail Fail
 unary_gets (suc d) = unary_of_gets (suc d) (Levels (Unary d)) (Unary d)
 
 -- ---- chains of operators
@@ -217,17 +217,17 @@ module _ (f : Piece → Option InfixOperator) (S : Rule Expr) (law : Gets S) whe
         ap is_lone_get (at ∙ ap (λ z. vs ++ z) (cut ∙ ap (λ z. ns ++ z) nil ∙ append-nil ns)) ∙ go x vs ns os many (law.holds vs x s') (ap expr_text (sym named) ∙ is);
   }
     where
-      go : (x : Expr) (vs ns : List Piece) (os : List (InfixOperator × Expr)) → Many f (λ o. Then S (λ y. Only (o, y))) ns os → (IsGet x → is_lone_get vs ≡ true) → IsGet (chain x os) → is_lone_get (vs ++ ns) ≡ true
+      go : (x : Expr) (vs ns : List Piece) (os : List (InfixOperator × Expr)) → Many f (λ o. Then S (λ y. Empty (o, y))) ns os → (IsGet x → is_lone_get vs ≡ true) → IsGet (chain x os) → is_lone_get (vs ++ ns) ≡ true
       go x vs ns [] none law is = ap is_lone_get (ap (λ z. vs ++ z) none ∙ append-nil vs) ∙ law is
       go x vs ns (o ∷ os) many law is = absurd (chained x o os is)
 
   pair_gets : Gets (Pair f S)
   pair_gets = record { holds = λ us y s is. let (x, vs, ws, at, s', r) = s in ap is_lone_get at ∙ go x y vs ws (law.holds vs x s') r is }
     where
-      operated : (x : Expr) → All NoGet (Led f (λ o. Then S (λ z. Only (chain x (one_operand o z)))))
+      operated : (x : Expr) → All NoGet (TokenThen f (λ o. Then S (λ z. Empty (chain x (one_operand o z)))))
       operated x = all_led (λ o. all_then (λ z. all_only (chained x (o, z) [])))
 
-      go : (x y : Expr) (vs ws : List Piece) → (IsGet x → is_lone_get vs ≡ true) → Or (Led f (λ o. Then S (λ z. Only (chain x (one_operand o z))))) (Only x) ws y → IsGet y → is_lone_get (vs ++ ws) ≡ true
+      go : (x y : Expr) (vs ws : List Piece) → (IsGet x → is_lone_get vs ≡ true) → Or (TokenThen f (λ o. Then S (λ z. Empty (chain x (one_operand o z))))) (Empty x) ws y → IsGet y → is_lone_get (vs ++ ws) ≡ true
       go x y vs ws law (inl r) is = absurd ((operated x).holds ws y r is)
       go x y vs ws law (inr (nil, named)) is = ap is_lone_get (ap (λ z. vs ++ z) nil ∙ append-nil vs) ∙ law (ap expr_text (sym named) ∙ is)
 

@@ -14,7 +14,7 @@ use Rattle.evo_tree.specs.declared.terminal.Terminal.TheVariants as t
 use Rattle.evo_tree.specs.Terminals.{number_of, terminal_of}
 use Rattle.evo_tree.specs.Pieces.{Piece, is_terminal}
 use Rattle.evo_tree.specs.Expressions.{Rule}
-use Rattle.evo_tree.specs.Statements.{is_below, Block_of, IsStmt, IsBlock, block}
+use Rattle.evo_tree.specs.Statements.{is_below, BlockOf, IsStmt, IsBlock, block}
 use Rattle.evo_tree.specs.Declarations.{Unless, is_get, begins_accessors}
 use Rattle.evo_tree.specs.Bare.{bare_stmt}
 use Rattle.evo_tree.specs.Canonical.{Text, block_text}
@@ -25,15 +25,15 @@ use Rattle.evo_round_trip.proofs.Printed.{any, begins, is_apart, is_flush, is_fr
 use Rattle.evo_round_trip.proofs.Prints.{Prints, Writes, Alone, Both, print_only, print_nothing, print_or, print_led, print_nested, print_then, print_after, print_firm, print_more, print_behind, print_on, print_by}
 use Rattle.evo_parse_expr.proofs.Tests.{and_both, same_terminal}
 use Rattle.evo_round_trip.proofs.Spellings.{sign}
-use Rattle.evo_round_trip.proofs.Takens.{Anyhow, taken_mark}
+use Rattle.evo_round_trip.proofs.TakenTokens.{Anyhow, taken_mark}
 use Rattle.evo_round_trip.proofs.Heads.{is_head, head_flush, calm_head, apart_free, and_left, and_right, both_true, leads_apart, Begun, any_head}
 use Rattle.evo_round_trip.proofs.ExpressionTrees.{like_map}
 use Rattle.evo_round_trip.proofs.StatementTrees.{SameStmt, SameBlock, block_same}
 use Rattle.evo_round_trip.proofs.PrintedBlocks.{feed, indent_gap, Stated, statements_print, block_leaf}
 use Rattle.evo_round_trip.proofs.NameTails.{Tail, statement_tail}
 use Rattle.evo_round_trip.proofs.GetTexts.{is_lone_get}
-use Rattle.evo_round_trip.proofs.GetStatements.{Gets_stated, statement_gets}
-use Rattle.evo_round_trip.proofs.GetterRules.{stays, is_staying, Closed, Other, Further, Getter_block, Stay, block_split, block_unsplit}
+use Rattle.evo_round_trip.proofs.GetStatements.{GetsStated, statement_gets}
+use Rattle.evo_round_trip.proofs.GetterRules.{stays, is_staying, Closed, Other, Further, GetterBlock, Stay, block_split, block_unsplit}
 
 -- ---- a further statement that does not go on a list of accessors
 
@@ -93,7 +93,7 @@ module _ (S : Rule Stmt) (law : Stated S) (n : ℕ) where
 
   -- ---- a statement that is not the name `get` alone is not written so
 
-  module _ (gets : Gets_stated S) where
+  module _ (gets : GetsStated S) where
     unlike : (us : List Piece) (x : Stmt) (ws : List Written) → S us x → is_lone_get us ≡ false → joined ws ≡ words_of x n → begins false is_head ws ≡ true → (ms : List Piece) → Matched false ms ws → is_lone_get ms ≡ false
     unlike us x ws s isnt written begun [] f = refl
     unlike us x [] s isnt written begun (m ∷ ms) f = absurd f
@@ -133,7 +133,7 @@ one_leaf p x xs q n = ap (λ z. codes "{" ++ z) (sym (append_assoc (below n x) (
 two_leaf : (p : Place) (x y : Stmt) (ys : List Stmt) (q : Place) (n : ℕ) → codes "{" ++ (below n x ++ (below n y ++ (flat_map (below n) ys ++ closing n))) ≡ block_text (block p (x ∷ y ∷ ys) q) n
 two_leaf p x y ys q n = ap (λ z. codes "{" ++ (below n x ++ z)) (sym (append_assoc (below n y) (flat_map (below n) ys) (closing n))) ∙ one_leaf p x (y ∷ ys) q n
 
-module _ (S : Rule Stmt) (law : Stated S) (tail : Tail S) (gets : Gets_stated S) (n : ℕ) where
+module _ (S : Rule Stmt) (law : Stated S) (tail : Tail S) (gets : GetsStated S) (n : ℕ) where
   abbrev Rest : (Place → Rule Block) → (Place → Rule Block) → Place → Type 0
   Rest R R' p = Prints {A = Unit {0} × Place} true any false is_apart (λ z. codes "{" ++ z) (λ b. block_text b n) (Both Alone Anyhow p) SameBlock (R p) (λ a. R' a.1)
 
@@ -156,8 +156,8 @@ module _ (S : Rule Stmt) (law : Stated S) (tail : Tail S) (gets : Gets_stated S)
       (λ a near. block_same p a.0.0.0.0.1 (x ∷ y ∷ ys) (a.0.0.0.1 ∷ a.0.0.1 ∷ a.0.1) q a.1 (ap₂ (λ v w. v ∷ w) near.0.0.0.1 (ap₂ (λ v w. v ∷ w) near.0.0.1 (like_map bare_stmt ys a.0.1 near.0.1))))))))
 
   -- a block of a getter, whatever its statements are
-  pub getter_block_prints : (d : ℕ) → Writes false false is_flush (λ b. block_text b n) SameBlock (Unless begins_accessors (Block_of d S)) (Unless begins_accessors (Block_of d S))
-  getter_block_prints d = print_by {T = Getter_block S d (Stay S)} {T' = λ a. Getter_block S d (On is_below (Stay S))} (block_split S d) (λ a. block_unsplit S tail d) (print_or
+  pub getter_block_prints : (d : ℕ) → Writes false false is_flush (λ b. block_text b n) SameBlock (Unless begins_accessors (BlockOf d S)) (Unless begins_accessors (BlockOf d S))
+  getter_block_prints d = print_by {T = GetterBlock S d (Stay S)} {T' = λ a. GetterBlock S d (On is_below (Stay S))} (block_split S d) (λ a. block_unsplit S tail d) (print_or
       (print_nested d (print_led {e' = false} {q = is_apart} (taken_mark t.OpenBrace [] refl refl (λ u g i. refl)) (λ p ws b. leads_apart _ (sign [] t.OpenBrace) ws refl b)
       (λ p. print_or (empty_prints p) (print_or (one_prints p) (two_prints p)))))
       print_nothing)

@@ -4,7 +4,7 @@ use Rattle.std.proofs.Common.{◌≡◌, ℕ, zero, suc, List, [], ◌∷◌, �
 use Rattle.std.specs.Prelude.{◌||◌, ◌&&◌, ◌==◌, not}
 use Rattle.std.specs.Str.{bytes_eq}
 use Rattle.evo_base.specs.declared.place.Place.{Place}
-use Rattle.evo_combinators.specs.Rule.{Only, Nothing, Led, Or, Then}
+use Rattle.evo_combinators.specs.Rule.{Empty, Fail, TokenThen, Or, Then}
 use Rattle.evo_combinators.specs.Guard.{On}
 use Rattle.evo_tree.specs.declared.statement.Block.{Block}
 use Rattle.evo_tree.specs.declared.statement.Stmt.{Stmt}
@@ -13,7 +13,7 @@ use Rattle.evo_tree.specs.declared.terminal.Terminal.TheVariants as t
 use Rattle.evo_tree.specs.Terminals.{number_of}
 use Rattle.evo_tree.specs.Pieces.{Piece, is_terminal, mark}
 use Rattle.evo_tree.specs.Expressions.{Rule, Nested}
-use Rattle.evo_tree.specs.Statements.{is_below, is_later, Later, statement_at, Statements, Rest_of_block, Block_of, block}
+use Rattle.evo_tree.specs.Statements.{is_below, is_later, Later, statement_at, Statements, BlockTail, BlockOf, block}
 use Rattle.evo_tree.specs.Declarations.{Unless, is_get, goes_on_get, begins_accessors}
 use Rattle.evo_round_trip.proofs.Printed.{begins}
 use Rattle.evo_round_trip.proofs.Heads.{and_left, and_right, both_true}
@@ -97,7 +97,7 @@ marked_goes k h u c takes = ap (λ z. goes_on z u.text) (is_same k u (mark_is k 
 
 module _ (S : Rule Stmt) where
   abbrev pub Closed : Place → List Stmt → Rule Block
-  Closed p ss = Led (mark t.CloseBrace) (λ q. Only (block p ss q))
+  Closed p ss = TokenThen (mark t.CloseBrace) (λ q. Empty (block p ss q))
 
   -- one that is not the name alone, and all the rest
   abbrev pub Other : Place → Rule Block
@@ -110,8 +110,8 @@ module _ (S : Rule Stmt) where
   abbrev pub Split : Rule Stmt → Place → Rule Block
   Split R p = Or (Closed p []) (Or (Other p) (Further R p))
 
-  abbrev pub Getter_block : ℕ → Rule Stmt → Rule Block
-  Getter_block d R = Or (Nested d (mark t.OpenBrace) (Split R)) Nothing
+  abbrev pub GetterBlock : ℕ → Rule Stmt → Rule Block
+  GetterBlock d R = Or (Nested d (mark t.OpenBrace) (Split R)) Fail
 
   -- a further statement that does not go on a list of accessors
   abbrev pub Stay : Rule Stmt
@@ -162,7 +162,7 @@ module _ (S : Rule Stmt) where
       by false lone = inr (inl (x, first, rest ++ close, whole, (lone, s), (xs, rest, close, refl, many, led)))
       by true lone = inr (inr (split_further p vs b x xs first rest close whole s (lone_stays first (rest ++ close) lone (sym (ap begins_get whole) ∙ isnt)) many led))
 
-  pub block_split : (d : ℕ) (us : List Piece) (b : Block) → Unless begins_accessors (Block_of d S) us b → Getter_block d Stay us b
+  pub block_split : (d : ℕ) (us : List Piece) (b : Block) → Unless begins_accessors (BlockOf d S) us b → GetterBlock d Stay us b
   block_split zero us b (isnt, inl s) = absurd s
   block_split zero us b (isnt, inr s) = absurd s
   block_split (suc d) us b (isnt, inr s) = absurd s
@@ -172,7 +172,7 @@ module _ (S : Rule Stmt) where
   -- ---- and what is split is a getter's block
 
   module _ (tail : Tail S) where
-    unsplit : (p : Place) (vs : List Piece) (b : Block) → Split (On is_below Stay) p vs b → (begins_get vs ≡ false) × Rest_of_block S p vs b
+    unsplit : (p : Place) (vs : List Piece) (b : Block) → Split (On is_below Stay) p vs b → (begins_get vs ≡ false) × BlockTail S p vs b
     unfolding is_later
     unsplit p vs b (inl (v, q, us, at, takes, (none, is))) = (ap begins_get (at ∙ ap (λ z. v ∷ z) none), ([], [], vs, refl, refl, (v, q, us, at, takes, (none, is))))
     unsplit p vs b (inr (inl (x, first, more, at, (lone, s), (xs, rest, close, at', many, led)))) = (
@@ -191,7 +191,7 @@ module _ (S : Rule Stmt) where
       ),
     )
 
-    pub block_unsplit : (d : ℕ) (us : List Piece) (b : Block) → Getter_block d (On is_below Stay) us b → Unless begins_accessors (Block_of d S) us b
+    pub block_unsplit : (d : ℕ) (us : List Piece) (b : Block) → GetterBlock d (On is_below Stay) us b → Unless begins_accessors (BlockOf d S) us b
     block_unsplit zero us b (inl s) = absurd s
     block_unsplit zero us b (inr s) = absurd s
     block_unsplit (suc d) us b (inr s) = absurd s

@@ -10,13 +10,13 @@ use Rattle.std.proofs.lemmas.Fmt.{decimal_by_steps}
 use Rattle.std.proofs.lemmas.List.{take_at, drop_at}
 use Rattle.std.proofs.lemmas.Str.{chars-append, chars-IsAscii, encodes-chars, encode_ascii, IsUtf8-from_ascii, IsUtf8-append}
 use Rattle.evo_base.specs.declared.token.Token.{Token}
-use Rattle.evo_lex.specs.declared.spot.Spot.{Spot}
+use Rattle.evo_lex.specs.declared.spot.Position.{Position}
 use Rattle.evo_lex.specs.declared.class.Class.TheVariants as class
 use Rattle.evo_lex.specs.declared.front.Front.TheVariants as front
 use Rattle.evo_lex.specs.Characters.{is_of}
 use Rattle.evo_lex.specs.Front.{front_of, white_of}
-use Rattle.evo_lex.specs.Cut.{CutFrom, beyond, behind}
-use Rattle.evo_lex.specs.Cut.CutFrom.{white}
+use Rattle.evo_lex.specs.Tokenization.{CutFrom, beyond, behind}
+use Rattle.evo_lex.specs.Tokenization.CutFrom.{white}
 use Rattle.evo_tree.specs.declared.declaration.Release.{Release}
 use Rattle.evo_tree.specs.Canonical.{release_text, head_text}
 use Rattle.evo_round_trip.proofs.Written.{breaks}
@@ -26,7 +26,7 @@ use Rattle.evo_round_trip.proofs.TokenCuts.{gap_cut}
 
 -- ---- a comment to the end of its line
 
-pub beyond_append : (xs ys : List ℕ) (s : Spot) → beyond (xs ++ ys) s ≡ beyond ys (beyond xs s)
+pub beyond_append : (xs ys : List ℕ) (s : Position) → beyond (xs ++ ys) s ≡ beyond ys (beyond xs s)
 beyond_append [] ys s = refl
 beyond_append (x ∷ xs) ys s = beyond_append xs ys (behind x s)
 
@@ -39,7 +39,7 @@ unfolding front_of white_of
 comment_front cs rest e = ap (at_front front.White) (let r = line_run cs rest e in omega arith)
 
 -- a cut begins with white space before it
-white_cut : (cs rest : List ℕ) (s : Spot) (tokens : List Token) → front_of (cs ++ rest) ≡ at_front front.White (length cs) → CutFrom (beyond cs s) rest tokens → CutFrom s (cs ++ rest) tokens
+white_cut : (cs rest : List ℕ) (s : Position) (tokens : List Token) → front_of (cs ++ rest) ≡ at_front front.White (length cs) → CutFrom (beyond cs s) rest tokens → CutFrom s (cs ++ rest) tokens
 white_cut cs rest s tokens e cut =
     white e (subst (λ (l : List ℕ). CutFrom (beyond l s) (drop (length cs) (cs ++ rest)) tokens) (sym (take_at cs rest (length cs) refl)) (subst (λ (l : List ℕ). CutFrom (beyond cs s) l tokens) (sym (drop_at cs rest (length cs) refl)) cut))
 
@@ -47,10 +47,10 @@ abbrev comment : List ℕ → List ℕ
 comment cs = 47 ∷ 47 ∷ cs
 
 -- a line with nothing but a comment is white space
-pub comment_cut : (cs rest : List ℕ) (s : Spot) (tokens : List Token) → breaks cs ≡ false → CutFrom (beyond (comment cs ++ 10 ∷ []) s) rest tokens → CutFrom s (comment cs ++ 10 ∷ rest) tokens
+pub comment_cut : (cs rest : List ℕ) (s : Position) (tokens : List Token) → breaks cs ≡ false → CutFrom (beyond (comment cs ++ 10 ∷ []) s) rest tokens → CutFrom s (comment cs ++ 10 ∷ rest) tokens
 comment_cut cs rest s tokens e cut =
     white_cut (comment cs) (10 ∷ rest) s tokens (comment_front cs rest e)
-    (gap_cut (10 ∷ []) rest (beyond (comment cs) s) tokens refl (subst (λ (p : Spot). CutFrom p rest tokens) (beyond_append (comment cs) (10 ∷ []) s) cut))
+    (gap_cut (10 ∷ []) rest (beyond (comment cs) s) tokens refl (subst (λ (p : Position). CutFrom p rest tokens) (beyond_append (comment cs) (10 ∷ []) s) cut))
 
 -- ---- texts with no line feed
 
@@ -183,11 +183,11 @@ module _ (name : List ℕ) (r : Release) (utf8 : IsUtf8 name) (feeds : breaks na
   second_quiet = breaks_append second_line (chars name ++ ending r) refl (breaks_append (chars name) (ending r) (name_quiet name utf8 feeds) (quiet_breaks (ending r) end_quiet))
 
   -- the heading is white space: what is cut behind it is cut with it
-  pub heading_is_white : (rest : List ℕ) (s : Spot) (tokens : List Token) → CutFrom (beyond (chars (head_text name r)) s) rest tokens → CutFrom s (chars (head_text name r) ++ rest) tokens
+  pub heading_is_white : (rest : List ℕ) (s : Position) (tokens : List Token) → CutFrom (beyond (chars (head_text name r)) s) rest tokens → CutFrom s (chars (head_text name r) ++ rest) tokens
   heading_is_white rest s tokens cut =
       let first = comment first_line ++ 10 ∷ [] in
       let second = comment second_chars ++ 10 ∷ [] in
-      let at_end : CutFrom (beyond second (beyond first s)) rest tokens = subst (λ (p : Spot). CutFrom p rest tokens) (ap (λ (l : List ℕ). beyond l s) head_chars ∙ beyond_append first second s) cut in
+      let at_end : CutFrom (beyond second (beyond first s)) rest tokens = subst (λ (p : Position). CutFrom p rest tokens) (ap (λ (l : List ℕ). beyond l s) head_chars ∙ beyond_append first second s) cut in
       let one = comment_cut second_chars rest (beyond first s) tokens second_quiet at_end in
       let two = comment_cut first_line (comment second_chars ++ 10 ∷ rest) s tokens refl one in
       subst (λ (l : List ℕ). CutFrom s l tokens) (both_lines (comment first_line) (comment second_chars) rest ∙ ap (λ (l : List ℕ). l ++ rest) (sym head_chars)) two

@@ -13,7 +13,7 @@ use Rattle.evo_round_trip.proofs.Matching.{is_sign}
 use Rattle.evo_round_trip.proofs.Written.{Written, is_none, is_mark, is_integer_kind, is_unattached, parts_from, keeps_role, gives_role, leads}
 use Rattle.evo_round_trip.proofs.Printed.{begins, any, is_apart, is_flush, is_free, leads_free}
 use Rattle.evo_round_trip.proofs.Spellings.{sign}
-use Rattle.evo_round_trip.proofs.Takens.{minus}
+use Rattle.evo_round_trip.proofs.TakenTokens.{minus}
 
 abbrev pub is_not_infix : Role → Bool
 is_not_infix role.Infix = false

@@ -22,7 +22,7 @@ pub mod TokensOfStrings
 pub mod Spellings
 pub mod Printed
 pub mod Prints
-pub mod Takens
+pub mod TakenTokens
 pub mod Heads
 pub mod ExpressionTrees
 pub mod PrintedExpressions
@@ -35,7 +35,7 @@ pub mod SameTexts
 pub mod PrintedBlocks
 pub mod TakenTypes
 pub mod PrintedTypes
-pub mod Snug
+pub mod Adjacent
 pub mod PrintedParameters
 pub mod PrintedHeaders
 pub mod OrderedKinds

@@ -21,27 +21,27 @@ Has role.Prefix r = r ≡ role.Prefix
 Has role.Negative r = r ≡ role.Negative
 
 -- the piece is the written token, on whatever line it stands
-pub record Like (m : Piece) (w : Written) : Type 0 where
+pub record SameLookahead (m : Piece) (w : Written) : Type 0 where
   pub terminal : m.terminal ≡ terminal_of w.kind w.text
   pub text : m.text ≡ w.text
   pub role : Has w.role m.role
 
 -- and it stands on a later line than the one before exactly where it is written so
 abbrev pub Fits : Piece → Written → Type 0
-Fits m w = Like m w × (m.below ≡ breaks w.gap)
+Fits m w = SameLookahead m w × (m.below ≡ breaks w.gap)
 
-abbrev pub All_fit : List Piece → List Written → Type 0
-All_fit [] [] = Unit {0}
-All_fit [] (w ∷ ws) = ⊥
-All_fit (m ∷ ms) [] = ⊥
-All_fit (m ∷ ms) (w ∷ ws) = Fits m w × All_fit ms ws
+abbrev pub AllFit : List Piece → List Written → Type 0
+AllFit [] [] = Unit {0}
+AllFit [] (w ∷ ws) = ⊥
+AllFit (m ∷ ms) [] = ⊥
+AllFit (m ∷ ms) (w ∷ ws) = Fits m w × AllFit ms ws
 
 -- all of them, but for the line on which the first one stands
 abbrev pub Alike : List Piece → List Written → Type 0
 Alike [] [] = Unit {0}
 Alike [] (w ∷ ws) = ⊥
 Alike (m ∷ ms) [] = ⊥
-Alike (m ∷ ms) (w ∷ ws) = Like m w × All_fit ms ws
+Alike (m ∷ ms) (w ∷ ws) = SameLookahead m w × AllFit ms ws
 
 -- ---- pieces of any text
 
@@ -73,6 +73,6 @@ abbrev pub Unnumbered : Piece → List Piece → Type 0
 Unnumbered p [] = Unit {0}
 Unnumbered p (q ∷ qs) = (is_terminal t.Minus p && has_role role.Prefix p) ≡ true → is_terminal t.Integer q ≡ false
 
-abbrev pub Genuine : List Piece → Type 0
-Genuine [] = Unit {0}
-Genuine (p ∷ ps) = IsGenuine p × (Parted p ps × Unnumbered p ps) × Genuine ps
+abbrev pub FromText : List Piece → Type 0
+FromText [] = Unit {0}
+FromText (p ∷ ps) = IsGenuine p × (Parted p ps × Unnumbered p ps) × FromText ps

@@ -2,7 +2,7 @@
 use Rattle.std.proofs.Common.{◌≡◌, ℕ, zero, suc, List, [], ◌∷◌, ◌++◌, Bool, true, false, Option, Some, None, refl, ◌∙◌, ap, cond, inl, inr}
 use Rattle.std.specs.Prelude.{◌||◌, ◌==◌, not}
 use Rattle.evo_base.specs.declared.place.Place.{Place}
-use Rattle.evo_combinators.specs.Rule.{Only, Nothing, Led, Or, Then, Many}
+use Rattle.evo_combinators.specs.Rule.{Empty, Fail, TokenThen, Or, Then, Many}
 use Rattle.evo_tree.specs.declared.expression.InfixOperator.{InfixOperator}
 use Rattle.evo_tree.specs.declared.expression.PrefixOperator.{PrefixOperator}
 use Rattle.evo_tree.specs.declared.expression.PrefixOperator.TheVariants as prefix
@@ -16,12 +16,12 @@ use Rattle.evo_tree.specs.declared.terminal.Role.TheVariants as role
 use Rattle.evo_tree.specs.Terminals.{number_of}
 use Rattle.evo_tree.specs.Pieces as pieces
 use Rattle.evo_tree.specs.Pieces.{Piece, is_terminal, has_role, placed, mark, identifier, integer, string, negative, call}
-use Rattle.evo_tree.specs.Expressions.{Rule, Nested, infix_by, multiplying, adding, comparing, conjoining, disjoining, Arguments, Primary, Post, Unary_of, Unary, Chain, Pair, Levels, IsExpr}
-use Rattle.evo_tree.specs.Statements.{introduced, introduces, assigning, assigns, is_target, assigns_to, Action, Stmt_of, IsCall, IsStmt}
+use Rattle.evo_tree.specs.Expressions.{Rule, Nested, infix_by, multiplying, adding, comparing, conjoining, disjoining, Arguments, Primary, Postfix, UnaryOf, Unary, Chain, Pair, Levels, IsExpr}
+use Rattle.evo_tree.specs.Statements.{introduced, introduces, assigning, assigns, is_target, assigns_to, Action, StmtOf, IsCall, IsStmt}
 use Rattle.evo_round_trip.proofs.Printed.{begins, begins_after}
 use Rattle.evo_round_trip.proofs.Heads.{or_right}
 use Rattle.evo_parse_expr.proofs.Tests.{is_same, same_terminal, mark_is, call_number, integer_number, string_number, negative_number}
-use Rattle.evo_round_trip.proofs.Takens.{sign_terminal, sign_shown}
+use Rattle.evo_round_trip.proofs.TakenTokens.{sign_terminal, sign_shown}
 
 -- no name, brace or semicolon
 abbrev pub is_quiet : Terminal → Bool
@@ -51,7 +51,7 @@ tailed_append (v ∷ u ∷ vs) ws h k = h
 -- ---- the parts of a grammar
 
 module _ {B : Type 0} where
-  quiet_only : {b : B} → Quiet (Only b)
+  quiet_only : {b : B} → Quiet (Empty b)
   quiet_only = record { holds = λ us b s. ap (begins true quiet) s.0 }
 
   quiet_or : {S R : Rule B} → Quiet S → Quiet R → Quiet (Or S R)
@@ -61,7 +61,7 @@ module _ {B : Type 0} where
       go us b (inl s) = qs.holds us b s
       go us b (inr r) = qr.holds us b r
 
-  tail_nothing : Tail {B = B} Nothing
+  tail_nothing : Tail {B = B} Fail
   tail_nothing = record { holds = λ us b s. absurd s }
 
   tail_or : {S R : Rule B} → Tail S → Tail R → Tail (Or S R)
@@ -73,10 +73,10 @@ module _ {B : Type 0} where
 
   module _ {C : Type 0} {f : Piece → Option C} {S : C → Rule B} where
     -- a token that may stand there
-    quiet_led : ((u : Piece) (c : C) → f u ≡ Some c → quiet u ≡ true) → Quiet (Led f S)
+    quiet_led : ((u : Piece) (c : C) → f u ≡ Some c → quiet u ≡ true) → Quiet (TokenThen f S)
     quiet_led h = record { holds = λ us b s. let (u, c, vs, at, takes, r) = s in ap (begins true quiet) at ∙ h u c takes }
 
-    quiet_nested : (d : ℕ) → Quiet (Led f S) → Quiet (Nested d f S)
+    quiet_nested : (d : ℕ) → Quiet (TokenThen f S) → Quiet (Nested d f S)
     quiet_nested zero q = record { holds = λ us b s. absurd s }
     quiet_nested (suc d) q = q
 
@@ -88,15 +88,15 @@ module _ {B : Type 0} where
         go us (b ∷ bs) s = let (u, c, vs, ws, at, takes, r, more) = s in ap (begins true quiet) at ∙ h u c takes
 
     -- a token that is no name
-    tail_led : ((u : Piece) (c : C) → f u ≡ Some c → is_terminal t.Identifier u ≡ false) → Tail (Led f S)
+    tail_led : ((u : Piece) (c : C) → f u ≡ Some c → is_terminal t.Identifier u ≡ false) → Tail (TokenThen f S)
     tail_led h = record { holds = λ us b s. let (u, c, vs, at, takes, r) = s in ap tailed at ∙ ap (λ z. not z || begins true quiet vs) (h u c takes) }
 
-    tail_nested : (d : ℕ) → Tail (Led f S) → Tail (Nested d f S)
+    tail_nested : (d : ℕ) → Tail (TokenThen f S) → Tail (Nested d f S)
     tail_nested zero h = record { holds = λ us b s. absurd s }
     tail_nested (suc d) h = h
 
     -- a name
-    tail_name : ((c : C) → Quiet (S c)) → Tail (Led f S)
+    tail_name : ((c : C) → Quiet (S c)) → Tail (TokenThen f S)
     tail_name q = record { holds = λ us b s. let (u, c, vs, at, takes, r) = s in ap tailed at ∙ or_right (not (is_terminal t.Identifier u)) (begins true quiet vs) ((q c).holds vs b r) }
 
   module _ {C : Type 0} {S : Rule C} {R : C → Rule B} where
@@ -212,15 +212,15 @@ module _ (d : ℕ) (I O : Rule Expr) where
       (tail_or (tail_nested d (tail_led (other_mark t.OpenParenthesis refl)))
       (tail_or (tail_led (other_mark t.Dot refl)) tail_nothing))))))))))
 
-  post_tail : Tail (Post d I O)
+  post_tail : Tail (Postfix d I O)
   post_tail = tail_then primary_tail (λ x. quiet_then (quiet_many (quiet_mark t.Dot refl)) (λ ms. quiet_only))
 
-  unary_of_tail : Tail (Unary_of d I O)
+  unary_of_tail : Tail (UnaryOf d I O)
   unary_of_tail = tail_or (tail_nested d (tail_led other_sign)) post_tail
 
 unary_tail : (d : ℕ) → Tail (Unary d)
 unfolding Unary
-unary_tail zero = unary_of_tail zero Nothing Nothing
+unary_tail zero = unary_of_tail zero Fail Fail
 unary_tail (suc d) = unary_of_tail (suc d) (Levels (Unary d)) (Unary d)
 
 module _ (h : Terminal → Option InfixOperator) (sounds : Sounds h) (S : Rule Expr) (law : Tail S) where
@@ -239,7 +239,7 @@ expression_tail d = levels_tail (Unary d) (unary_tail d)
 -- ---- statements
 
 module _ (d : ℕ) (E : Rule Expr) (S : Rule Stmt) (law : Tail E) where
-  statement_of_tail : Tail (Stmt_of false d E (IsCall d) S)
+  statement_of_tail : Tail (StmtOf false d E (IsCall d) S)
   statement_of_tail = tail_or (tail_led other_introduces)
       (tail_or (tail_led (other_mark t.Underscore refl))
       (tail_or (tail_led (other_mark t.If refl))
@@ -255,5 +255,5 @@ module _ (d : ℕ) (E : Rule Expr) (S : Rule Stmt) (law : Tail E) where
 -- a statement that begins with a name goes on with `(`, `.` or an operator, if it does
 pub statement_tail : (d : ℕ) → Tail (IsStmt false d)
 unfolding IsStmt
-statement_tail zero = statement_of_tail zero (IsExpr zero) Nothing (expression_tail zero)
+statement_tail zero = statement_of_tail zero (IsExpr zero) Fail (expression_tail zero)
 statement_tail (suc d) = statement_of_tail (suc d) (IsExpr (suc d)) (IsStmt false d) (expression_tail (suc d))

@@ -7,7 +7,7 @@ use Rattle.evo_tree.specs.declared.terminal.Role.{Role}
 use Rattle.evo_tree.specs.declared.terminal.Role.TheVariants as role
 use Rattle.evo_tree.specs.Pieces.{Piece}
 use Rattle.evo_round_trip.proofs.Written.{Written, joined, is_none, is_wordy, is_operator_kind, is_string_kind, is_mark, parts_from, keeps_role, gives_role, joins, is_unattached, leads, Sound}
-use Rattle.evo_round_trip.proofs.Matching.{Like, Fits, All_fit, Genuine}
+use Rattle.evo_round_trip.proofs.Matching.{SameLookahead, Fits, AllFit, FromText}
 
 abbrev pub Text : Type 0
 Text = List ℕ
@@ -43,31 +43,31 @@ is_free w = not (is_none w.gap) || (is_mark w.kind && is_unattached w.role)
 -- the piece is the written token, on whatever line where it need not be firm
 abbrev pub Fitted : Bool → Piece → Written → Type 0
 Fitted true m w = Fits m w
-Fitted false m w = Like m w
+Fitted false m w = SameLookahead m w
 
 abbrev pub Matched : Bool → List Piece → List Written → Type 0
 Matched firm [] [] = Unit {0}
 Matched firm [] (w ∷ ws) = ⊥
 Matched firm (m ∷ ms) [] = ⊥
-Matched firm (m ∷ ms) (w ∷ ws) = Fitted firm m w × All_fit ms ws
+Matched firm (m ∷ ms) (w ∷ ws) = Fitted firm m w × AllFit ms ws
 
 pub loosely : (firm : Bool) (m : Piece) (w : Written) → Fits m w → Fitted firm m w
 loosely true m w f = f
 loosely false m w f = f.0
 
-pub all_matched : (firm : Bool) (ms : List Piece) (ws : List Written) → All_fit ms ws → Matched firm ms ws
+pub all_matched : (firm : Bool) (ms : List Piece) (ws : List Written) → AllFit ms ws → Matched firm ms ws
 all_matched firm [] [] f = tt
 all_matched firm [] (w ∷ ws) f = absurd f
 all_matched firm (m ∷ ms) [] f = absurd f
 all_matched firm (m ∷ ms) (w ∷ ws) f = (loosely firm m w f.0, f.1)
 
-pub matched_fit : (ms : List Piece) (ws : List Written) → Matched true ms ws → All_fit ms ws
+pub matched_fit : (ms : List Piece) (ws : List Written) → Matched true ms ws → AllFit ms ws
 matched_fit [] [] f = tt
 matched_fit [] (w ∷ ws) f = absurd f
 matched_fit (m ∷ ms) [] f = absurd f
 matched_fit (m ∷ ms) (w ∷ ws) f = f
 
-fit_parts : (ms : List Piece) (xs ys : List Written) → All_fit ms (xs ++ ys) → (ns : List Piece) × (ps : List Piece) × (ms ≡ ns ++ ps) × All_fit ns xs × All_fit ps ys
+fit_parts : (ms : List Piece) (xs ys : List Written) → AllFit ms (xs ++ ys) → (ns : List Piece) × (ps : List Piece) × (ms ≡ ns ++ ps) × AllFit ns xs × AllFit ps ys
 fit_parts ms [] ys f = ([], ms, refl, tt, f)
 fit_parts [] (x ∷ xs) ys f = absurd f
 fit_parts (m ∷ ms) (x ∷ xs) ys f = let (ns, ps, cut, left, right) = fit_parts ms xs ys f.1 in (m ∷ ns, ps, ap (λ z. m ∷ z) cut, (f.0, left), right)
@@ -87,12 +87,12 @@ firm_parts firm p (m ∷ ms) (x ∷ xs) ys b f = let (ns, ps, cut, left, right) 
 
 -- ---- parts of genuine pieces
 
-pub genuine_left : (vs ws : List Piece) → Genuine (vs ++ ws) → Genuine vs
+pub genuine_left : (vs ws : List Piece) → FromText (vs ++ ws) → FromText vs
 genuine_left [] ws g = tt
 genuine_left (v ∷ []) ws g = (g.0, (tt, tt), tt)
 genuine_left (v ∷ u ∷ vs) ws g = (g.0, g.1, genuine_left (u ∷ vs) ws g.2)
 
-pub genuine_right : (vs ws : List Piece) → Genuine (vs ++ ws) → Genuine ws
+pub genuine_right : (vs ws : List Piece) → FromText (vs ++ ws) → FromText ws
 genuine_right [] ws g = g
 genuine_right (v ∷ vs) ws g = genuine_right vs ws g.2
 

@@ -2,7 +2,7 @@
 use Rattle.std.proofs.Common.{◌≡◌, ℕ, zero, suc, ◌+◌, [], ◌∷◌, ◌++◌, Bool, true, false, codes, Option, Some, None, refl, sym, ◌∙◌, ap, ap₂, subst, append_assoc, append-nil}
 use Rattle.std.specs.List.{flat_map}
 use Rattle.std.specs.Option.{option_map}
-use Rattle.evo_combinators.specs.Rule.{Nothing, Or}
+use Rattle.evo_combinators.specs.Rule.{Fail, Or}
 use Rattle.evo_tree.specs.declared.statement.Block.{Block}
 use Rattle.evo_tree.specs.declared.declaration.Accessors.{Accessors}
 use Rattle.evo_tree.specs.declared.declaration.Accessors.TheVariants as accessors
@@ -10,14 +10,14 @@ use Rattle.evo_tree.specs.declared.terminal.Terminal.TheVariants as t
 use Rattle.evo_tree.specs.Pieces.{mark}
 use Rattle.evo_tree.specs.Expressions.{Rule, Nested}
 use Rattle.evo_tree.specs.Statements.{IsBlock}
-use Rattle.evo_tree.specs.Declarations.{Within, Unless, begins_accessors, Stored, Body, Setter, Rest_of_blocks, Getter, Braces, IsAccessors}
+use Rattle.evo_tree.specs.Declarations.{Within, Unless, begins_accessors, Stored, Body, Setter, BlocksTail, Getter, Braces, IsAccessors}
 use Rattle.evo_tree.specs.Bare.{bare_block, bare_accessors}
 use Rattle.evo_tree.specs.Canonical.{Text, indent, line, optional, block_text, body_text, accessors_text}
 use Rattle.evo_round_trip.proofs.Printed.{any, is_apart, is_flush, is_free, leads_free}
 use Rattle.evo_round_trip.proofs.Prints.{Prints, Writes, print_only, print_nothing, print_or, print_led, print_nested, print_then, print_after, print_behind, print_firm, print_more}
 use Rattle.evo_round_trip.proofs.Spellings.{sign, named}
 use Rattle.evo_round_trip.proofs.Tokens.{get_is_name, set_is_name}
-use Rattle.evo_round_trip.proofs.Takens.{taken_mark, taken_word}
+use Rattle.evo_round_trip.proofs.TakenTokens.{taken_mark, taken_word}
 use Rattle.evo_round_trip.proofs.Heads.{apart_free, leads_apart}
 use Rattle.evo_round_trip.proofs.StatementTrees.{SameBlock}
 use Rattle.evo_round_trip.proofs.PrintedBlocks.{feed, indent_gap}
@@ -91,7 +91,7 @@ blocks_leaf n g (Some b) =
         codes " " ++ (codes "{\n" ++ flat_map (λ (l : ℕ → Text). l (n + 1)) ((λ d. line d (codes "get" ++ codes " " ++ v)) ∷ (λ d. line d (codes "set" ++ codes " " ++ w)) ∷ []) ++ indent n ++ codes "}")
     last v w = simp (append_assoc, append-nil)
 
-lists_print : (d n : ℕ) → Writes true false is_apart (accessors_text n) SameAccessors (Or (Nested d (mark t.OpenBrace) (λ _. Rest_of_blocks Blocks d)) Nothing) (Or (Nested d (mark t.OpenBrace) (λ _. Rest_of_blocks Blocks d)) Nothing)
+lists_print : (d n : ℕ) → Writes true false is_apart (accessors_text n) SameAccessors (Or (Nested d (mark t.OpenBrace) (λ _. BlocksTail Blocks d)) Fail) (Or (Nested d (mark t.OpenBrace) (λ _. BlocksTail Blocks d)) Fail)
 lists_print d n = print_or
     (print_nested d (print_led {e' = false} {q = is_apart} (taken_mark t.OpenBrace (codes " ") refl refl (λ u g i. refl)) (λ c ws b. leads_apart _ (sign (codes " ") t.OpenBrace) ws refl b)
     (λ c. print_led {e' = false} {q = is_apart} (taken_word (codes "get") (feed (n + 1)) (indent_gap (n + 1)) get_is_name refl) (λ c' ws b. leads_apart _ (named (feed (n + 1)) (codes "get")) ws refl b)

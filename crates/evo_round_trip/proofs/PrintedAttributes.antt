@@ -12,18 +12,18 @@ use Rattle.evo_tree.specs.declared.declaration.Attr.{Attr}
 use Rattle.evo_tree.specs.declared.terminal.Terminal.TheVariants as t
 use Rattle.evo_tree.specs.Terminals.{number_of}
 use Rattle.evo_tree.specs.Pieces.{Piece, is_terminal}
-use Rattle.evo_tree.specs.Declarations.{attribute_number, is_attribute, has_attribute, ordered_attributes, attribute, attribute_of, unless_attribute, attribute_word, Rest_of_available, Attribute, Attributes}
+use Rattle.evo_tree.specs.Declarations.{attribute_number, is_attribute, has_attribute, ordered_attributes, attribute, attribute_of, unless_attribute, attribute_word, AvailableTail, Attribute, Attributes}
 use Rattle.evo_tree.specs.Bare.{origin, bare_attr}
 use Rattle.evo_tree.specs.Canonical.{availability_text, attr_text}
 use Rattle.evo_round_trip.proofs.Written.{Written, Sound, joined}
-use Rattle.evo_round_trip.proofs.Matching.{Genuine, IsName}
+use Rattle.evo_round_trip.proofs.Matching.{FromText, IsName}
 use Rattle.evo_round_trip.proofs.Printed.{Text, any, begins, is_free, Matched, leads_free}
 use Rattle.evo_round_trip.proofs.Prints.{Prints, Taken, Writes, print_only, print_nothing, print_or, print_led, print_nested, print_then, print_firm}
 use Rattle.evo_parse_expr.proofs.Tests.{when_some, number_is}
 use Rattle.evo_round_trip.proofs.Tokens.{frozen_is_name, inlinable_is_name, usable_from_inline_is_name, available_is_name}
 use Rattle.evo_round_trip.proofs.TokensOfWords.{name_is_token}
 use Rattle.evo_round_trip.proofs.Spellings.{sign, named}
-use Rattle.evo_round_trip.proofs.Takens.{like_of, taken_mark, taken_word}
+use Rattle.evo_round_trip.proofs.TakenTokens.{like_of, taken_mark, taken_word}
 use Rattle.evo_round_trip.proofs.Heads.{is_calm, leads_calm}
 use Rattle.evo_round_trip.proofs.PrintedTypes.{SameBy}
 use Rattle.evo_round_trip.proofs.PrintedAvailability.{availability_prints}
@@ -95,7 +95,7 @@ taken_attribute = record {
 }
 
 available_prints : {A : Type 0} {Near : A → Type 0} (d : ℕ) (p : Place) (p' : A → Place) →
-    Prints true any false is_free (λ z. codes "@available" ++ z) (λ a. codes "@" ++ kind_text a.kind) Near (SameBy bare_attr) (Rest_of_available d p) (λ a. Rest_of_available d (p' a))
+    Prints true any false is_free (λ z. codes "@available" ++ z) (λ a. codes "@" ++ kind_text a.kind) Near (SameBy bare_attr) (AvailableTail d p) (λ a. AvailableTail d (p' a))
 available_prints d p p' = print_or
     (print_nested d (print_led {e' = false} {q = is_calm} (taken_mark t.OpenParenthesis [] refl refl (λ u g i. refl)) (λ c ws b. leads_calm _ (sign [] t.OpenParenthesis) ws (λ k. refl) refl b)
     (λ c. print_then {e' = false} (print_firm availability_prints) (λ w i. i) (λ w i. i)
@@ -121,7 +121,7 @@ abbrev single : ℕ → Bool
 single n = not (n == 3)
 
 -- what `@available` spells
-is_available : (d : ℕ) (p : Place) (us : List Piece) (a : Attr) → Rest_of_available d p us a → number a ≡ 3
+is_available : (d : ℕ) (p : Place) (us : List Piece) (a : Attr) → AvailableTail d p us a → number a ≡ 3
 is_available zero p us a (inl s) = absurd s
 is_available zero p us a (inr s) = absurd s
 is_available (suc d) p us a (inl (u, c, vs, at, takes, (av, ws, xs, at', s, (v, c', ys, at'', takes', only)))) = ap number only.1
@@ -224,7 +224,7 @@ again_same xs ys same = (
 )
 
 -- attributes are written in their order before `ys`, and read again
-pub attributes_front : (d : ℕ) (us : List Piece) (attrs : List Attr) → Genuine us → Attributes d us attrs → (ys : List Written) → begins false is_calm ys ≡ true → Sound ys →
+pub attributes_front : (d : ℕ) (us : List Piece) (attrs : List Attr) → FromText us → Attributes d us attrs → (ys : List Written) → begins false is_calm ys ≡ true → Sound ys →
     (zs : List Written) × (joined zs ≡ flat_map (λ a. attr_text a.kind) (ordered_attributes attrs) ++ joined ys) × Sound zs × (begins false is_calm zs ≡ true)
     × ((ms : List Piece) → Matched false ms zs → (ns : List Piece) × (ps : List Piece) × (attrs' : List Attr) × (ms ≡ ns ++ ps) × Attributes d ns attrs' × (map bare_attr (ordered_attributes attrs') ≡ map bare_attr (ordered_attributes attrs)) × ((k : AttrKind) → has_attribute k attrs' ≡ has_attribute k attrs) × Matched false ps ys)
 attributes_front d us attrs gen run ys begun sound =

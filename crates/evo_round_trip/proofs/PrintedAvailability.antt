@@ -5,7 +5,7 @@ use Rattle.std.specs.Fmt.{decimal}
 use Rattle.std.specs.Str.{bytes_eq}
 use Rattle.std.proofs.lemmas.Slice.Eq.{bytes_eq-Decides}
 use Rattle.evo_base.specs.declared.place.Place.{Place}
-use Rattle.evo_combinators.specs.Rule.{Only, One, Led, Then}
+use Rattle.evo_combinators.specs.Rule.{Empty, One, TokenThen, Then}
 use Rattle.evo_lex.specs.Front.{when, integer_value}
 use Rattle.evo_tree.specs.declared.declaration.Availability.{Availability}
 use Rattle.evo_tree.specs.declared.declaration.Availability.TheVariants as availability
@@ -18,7 +18,7 @@ use Rattle.evo_tree.specs.Declarations.{standing, introduced, Number, Minor, IsA
 use Rattle.evo_tree.specs.Bare.{origin}
 use Rattle.evo_tree.specs.Canonical.{availability_text}
 use Rattle.evo_round_trip.proofs.Written.{Written, is_gap}
-use Rattle.evo_round_trip.proofs.Matching.{Genuine, IsGenuine, IsName}
+use Rattle.evo_round_trip.proofs.Matching.{FromText, IsGenuine, IsName}
 use Rattle.evo_round_trip.proofs.Printed.{Text, any, any_begins, is_apart, is_free, leads_free}
 use Rattle.evo_round_trip.proofs.Prints.{Writes, Taken, print_in, print_only, print_or, print_led, print_then}
 use Rattle.evo_parse_expr.proofs.Tests.{both_and, number_is}
@@ -26,7 +26,7 @@ use Rattle.evo_round_trip.proofs.Tokens.{deprecated_is_name, unavailable_is_name
 use Rattle.evo_round_trip.proofs.TokensOfWords.{name_is_token}
 use Rattle.evo_round_trip.proofs.TokensOfIntegers.{integer_value_is}
 use Rattle.evo_round_trip.proofs.Spellings.{sign, named, numeral}
-use Rattle.evo_round_trip.proofs.Takens.{like_of, taken_mark, taken_word, taken_integer}
+use Rattle.evo_round_trip.proofs.TakenTokens.{like_of, taken_mark, taken_word, taken_integer}
 use Rattle.evo_round_trip.proofs.Heads.{is_calm, leads_apart, leads_dot}
 use Rattle.evo_round_trip.proofs.PrintedTypes.{print_of}
 
@@ -40,17 +40,17 @@ number_prints gap blank begun = print_led {e' = true} {q = is_free} (taken_integ
     (λ v. print_only (ap (λ z. gap ++ z) (append-nil (decimal v.1))) (λ a near. near.1))
 
 abbrev Dotted : Rule ℕ
-Dotted = Led (mark t.Dot) (λ _. Number)
+Dotted = TokenThen (mark t.Dot) (λ _. Number)
 
 dotted_prints : Writes true false is_free (λ n. codes "." ++ decimal n) (λ n m. n ≡ m) Dotted Dotted
 dotted_prints = print_led {e' = false} {q = is_calm} (taken_mark t.Dot [] refl refl (λ u g i. refl)) (λ c ws b. leads_dot _ ws b)
     (λ c. print_in (λ n z h. ap (λ v. codes "." ++ v) h) (number_prints [] refl (λ n. refl)))
 
 -- a minor number that is left out is 0, which is written
-minor_dotted : (us : List Piece) (n : ℕ) → Genuine us → Minor us n → (vs : List Piece) × Genuine vs × Dotted vs n
+minor_dotted : (us : List Piece) (n : ℕ) → FromText us → Minor us n → (vs : List Piece) × FromText vs × Dotted vs n
 unfolding mark integer
 minor_dotted us n gen (inl s) = (us, gen, s)
-minor_dotted us n gen (inr only) = subst (λ z. (vs : List Piece) × Genuine vs × Dotted vs z) (sym only.1) (u ∷ v ∷ [], (dot, (λ h. refl, λ h. absurd (cc)), (number, (tt, tt), tt)), (u, origin, v ∷ [], refl, refl, (v, (origin, 0), [], refl, zero_again, (refl, refl))))
+minor_dotted us n gen (inr only) = subst (λ z. (vs : List Piece) × FromText vs × Dotted vs z) (sym only.1) (u ∷ v ∷ [], (dot, (λ h. refl, λ h. absurd (cc)), (number, (tt, tt), tt)), (u, origin, v ∷ [], refl, refl, (v, (origin, 0), [], refl, zero_again, (refl, refl))))
   where
     u : Piece
     u = record { terminal = t.Dot; role = role.Unattached; below = false; place = origin; text = codes "." }
@@ -131,7 +131,7 @@ taken_standing = record {
 
 -- `*` and a word
 abbrev Starred : Rule Availability
-Starred = Led (mark t.Star) (λ _. Led (mark t.Comma) (λ _. One standing))
+Starred = TokenThen (mark t.Star) (λ _. TokenThen (mark t.Comma) (λ _. One standing))
 
 starred_prints : Writes false false is_calm availability_text SameAvailability Starred Starred
 starred_prints = print_of leaf (print_led {before = λ z. z} {out = λ a. codes "*, " ++ standing_text a} {e' = false} {q = is_free} (taken_mark t.Star [] refl refl (λ u g i. refl)) (λ c ws b. leads_free _ (sign [] t.Star) ws refl b)
@@ -144,7 +144,7 @@ starred_prints = print_of leaf (print_led {before = λ z. z} {out = λ a. codes 
 
 -- a release, and `*`
 abbrev Released : Rule Availability
-Released = Led (word (codes "macOS")) (λ _. Then Number (λ n. Then Minor (λ m. Led (mark t.Comma) (λ _. Led (mark t.Star) (λ _. Only (introduced n m))))))
+Released = TokenThen (word (codes "macOS")) (λ _. Then Number (λ n. Then Minor (λ m. TokenThen (mark t.Comma) (λ _. TokenThen (mark t.Star) (λ _. Empty (introduced n m))))))
 
 released_leaf : (n m : Text) → codes "macOS" ++ ((codes " " ++ n) ++ ((codes "." ++ m) ++ codes ", *")) ≡ (codes "macOS " ++ ((n ++ codes ".") ++ m)) ++ codes ", *"
 released_leaf n m = simp append_assoc

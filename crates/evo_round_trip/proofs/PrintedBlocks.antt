@@ -4,22 +4,22 @@ use Rattle.std.specs.Prelude.{◌==◌, not}
 use Rattle.std.specs.List.{flat_map}
 use Rattle.evo_base.specs.declared.place.Place.{Place}
 use Rattle.evo_combinators.specs.Guard.{On}
-use Rattle.evo_round_trip.proofs.Alike.{All_like}
+use Rattle.evo_round_trip.proofs.Alike.{AllLike}
 use Rattle.evo_tree.specs.declared.statement.Stmt.{Stmt}
 use Rattle.evo_tree.specs.declared.terminal.Terminal.TheVariants as t
 use Rattle.evo_tree.specs.Terminals.{number_of}
 use Rattle.evo_tree.specs.Pieces.{Piece}
 use Rattle.evo_tree.specs.Expressions.{Rule}
-use Rattle.evo_tree.specs.Statements.{is_below, is_later, Later, statement_at, Statements, Block_of, block}
+use Rattle.evo_tree.specs.Statements.{is_below, is_later, Later, statement_at, Statements, BlockOf, block}
 use Rattle.evo_tree.specs.Bare.{bare_stmt}
 use Rattle.evo_tree.specs.Canonical.{Text, indent, line, stmt_text, block_text}
 use Rattle.evo_print.specs.Texts.{words_of}
 use Rattle.evo_round_trip.proofs.Written.{Written, joined, is_gap, breaks, Sound}
-use Rattle.evo_round_trip.proofs.Matching.{Genuine}
+use Rattle.evo_round_trip.proofs.Matching.{FromText}
 use Rattle.evo_round_trip.proofs.Printed.{any, begins, is_apart, is_flush, is_free, Matched, any_begins, leads_free, begins_within}
 use Rattle.evo_round_trip.proofs.Prints.{Prints, Writes, Alone, print_only, print_nothing, print_or, print_led, print_nested, print_after, print_run, print_firm, print_more, print_behind, print_on}
 use Rattle.evo_round_trip.proofs.Spellings.{sign}
-use Rattle.evo_round_trip.proofs.Takens.{taken_mark}
+use Rattle.evo_round_trip.proofs.TakenTokens.{taken_mark}
 use Rattle.evo_round_trip.proofs.Heads.{is_head, head_flush, apart_free, and_left, and_right, leads_apart, Begun, any_head, is_no_dot, later_begun}
 use Rattle.evo_round_trip.proofs.ExpressionTrees.{like_map}
 use Rattle.evo_round_trip.proofs.StatementTrees.{SameStmt, SameBlock, stmt_line, block_is, block_same}
@@ -86,19 +86,19 @@ module _ (S : Rule Stmt) (law : Stated S) (n : ℕ) where
   next_below : Prints {A = Bool} true any false is_apart (λ z. z) below (λ s. false ≡ s) SameStmt (statement_at S false) (statement_at S)
   next_below = record { holds = go }
     where
-      again : (us : List Piece) (x : Stmt) → Genuine us → Later S us x →
+      again : (us : List Piece) (x : Stmt) → FromText us → Later S us x →
           (ws : List Written) × (joined ws ≡ below x) × Sound ws × (begins false is_apart ws ≡ true) × ((a : Bool) → false ≡ a → (ms : List Piece) → Matched true ms ws → (x' : Stmt) × statement_at S a ms x' × SameStmt x x')
       again us x gen s =
           let (ws, written, sound, begun, make) = further_prints.holds us x gen (any_begins us) s in
           (ws, written, sound, begun, λ a near ms f. let (x', s', same) = make tt tt ms f in (x', subst (λ b. statement_at S b ms x') near (inr s'), same))
 
-      go : (us : List Piece) (x : Stmt) → Genuine us → begins true any us ≡ true → statement_at S false us x →
+      go : (us : List Piece) (x : Stmt) → FromText us → begins true any us ≡ true → statement_at S false us x →
           (ws : List Written) × (joined ws ≡ below x) × Sound ws × (begins false is_apart ws ≡ true) × ((a : Bool) → false ≡ a → (ms : List Piece) → Matched true ms ws → (x' : Stmt) × statement_at S a ms x' × SameStmt x x')
-      go us x gen fst (inl (t, c, vs, at, takes, s)) = again vs x (subst Genuine at gen).2 s
+      go us x gen fst (inl (t, c, vs, at, takes, s)) = again vs x (subst FromText at gen).2 s
       go us x gen fst (inr (u, vs, at, is, s)) = again us x gen s
 
   -- statements, each on a line of its own
-  pub statements_print : (first : Bool) → Writes true true is_apart (flat_map below) (All_like SameStmt) (Statements S first) (Statements S first)
+  pub statements_print : (first : Bool) → Writes true true is_apart (flat_map below) (AllLike SameStmt) (Statements S first) (Statements S first)
   statements_print first = record {
     holds = λ us xs gen fst s.
         let (ws, written, sound, begun, make) = (print_run {Rel = λ s s'. s ≡ s'} apart_free each (λ s s' x x' near same. refl) first).holds us xs gen fst s in
@@ -123,7 +123,7 @@ block_leaf p ss q n =
     lines (x ∷ xs) = ap₂ (λ v w. v ++ w) (sym (stmt_line x (n + 1))) (lines xs)
 
 -- a block that begins behind a blank
-pub block_prints : (d : ℕ) (S : Rule Stmt) → Stated S → (n : ℕ) → Writes false false is_flush (λ b. block_text b n) SameBlock (Block_of d S) (Block_of d S)
+pub block_prints : (d : ℕ) (S : Rule Stmt) → Stated S → (n : ℕ) → Writes false false is_flush (λ b. block_text b n) SameBlock (BlockOf d S) (BlockOf d S)
 block_prints d S law n = print_or
     (print_nested d (print_led {e' = false} {q = is_apart} (taken_mark t.OpenBrace [] refl refl (λ u g i. refl)) (λ c ws b. leads_apart _ (sign [] t.OpenBrace) ws refl b)
     (λ c. print_after {q = is_apart} (statements_print S law (n + 1) true) (λ w i. i) apart_free (λ w i. i)

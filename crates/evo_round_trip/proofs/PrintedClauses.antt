@@ -3,7 +3,7 @@ use Rattle.std.proofs.Common.{◌≡◌, ℕ, ◌+◌, List, [], ◌∷◌, ◌+
 use Rattle.std.specs.List.{flat_map}
 use Rattle.evo_base.specs.declared.place.Place.{Place}
 use Rattle.evo_combinators.specs.Guard.{Run}
-use Rattle.evo_round_trip.proofs.Alike.{All_like}
+use Rattle.evo_round_trip.proofs.Alike.{AllLike}
 use Rattle.evo_tree.specs.declared.statement.ClauseLabel.{ClauseLabel}
 use Rattle.evo_tree.specs.declared.statement.ClauseLabel.TheVariants as label
 use Rattle.evo_tree.specs.declared.statement.Clause.{Clause, Clause-F, out-Clause, roll-Clause, map-Clause, fold_out-Clause, out-roll-Clause}
@@ -11,7 +11,7 @@ use Rattle.evo_tree.specs.declared.statement.Stmt.{Stmt, roll-Stmt}
 use Rattle.evo_tree.specs.declared.statement.Block.{Block, roll-Block}
 use Rattle.evo_tree.specs.declared.terminal.Terminal.TheVariants as t
 use Rattle.evo_tree.specs.Expressions.{Rule}
-use Rattle.evo_tree.specs.Statements.{clause, takes_rest, is_last_clause, Some_statements, IsClause, clause_at, Rest_of_clauses, less, Clauses_of}
+use Rattle.evo_tree.specs.Statements.{clause, takes_rest, is_last_clause, SomeStatements, IsClause, clause_at, ClausesTail, less, ClausesOf}
 use Rattle.evo_tree.specs.Bare.{clear_stmt, clear_block, clear_clause, bare_block, bare_stmt, bare_clause, bare_clause_label}
 use Rattle.evo_tree.specs.Canonical.{Text, indent, line, clause_text, stmt_text}
 use Rattle.evo_print.specs.Texts.{words_of, clause_lines}
@@ -19,7 +19,7 @@ use Rattle.evo_print.proofs.StatementTexts.{clause_text_lines}
 use Rattle.evo_round_trip.proofs.Printed.{any, is_apart, is_flush, is_free, leads_free}
 use Rattle.evo_round_trip.proofs.Prints.{Prints, Writes, print_only, print_nothing, print_or, print_led, print_nested, print_then, print_after, print_after_told, print_run, print_behind, print_in, print_firm, print_more}
 use Rattle.evo_round_trip.proofs.Spellings.{sign}
-use Rattle.evo_round_trip.proofs.Takens.{taken_mark}
+use Rattle.evo_round_trip.proofs.TakenTokens.{taken_mark}
 use Rattle.evo_round_trip.proofs.Heads.{is_head, head_flush, apart_free, leads_apart, any_head}
 use Rattle.evo_round_trip.proofs.ExpressionTrees.{like_map}
 use Rattle.evo_round_trip.proofs.StatementTrees.{SameStmt, SameClause, stmt_line, clause_same}
@@ -63,7 +63,7 @@ module _ (S : Rule Stmt) (law : Stated S) where
   abbrev below : ℕ → Stmt → Text
   below n x = feed n ++ words_of x n
 
-  some_prints : (n : ℕ) → Writes true false is_apart (flat_map (below n)) (All_like SameStmt) (Some_statements S) (Some_statements S)
+  some_prints : (n : ℕ) → Writes true false is_apart (flat_map (below n)) (AllLike SameStmt) (SomeStatements S) (SomeStatements S)
   some_prints n = print_then {q = is_apart} {e' = true} (print_firm (print_behind (feed n) refl (indent_gap n) (print_more (λ h. h) head_flush (law n any is_head any_head)))) (λ w i. i) apart_free
       (λ x. print_after {q = is_apart} (statements_print S law n false) (λ w i. i) apart_free (λ w i. i)
       (λ xs. print_only (ap (λ z. below n x ++ z) (append-nil (flat_map (below n) xs))) (λ a near. (near.0.1, near.1))))
@@ -94,7 +94,7 @@ module _ (S : Rule Stmt) (law : Stated S) where
           ap (λ z. takes_rest (out-Clause z).label) (fold_out-Clause Stmt Block Clause (λ z. roll-Stmt (clear_stmt z)) (λ b. roll-Block (clear_block b)) (λ k. roll-Clause (clear_clause k)) c)
           ∙ ap (λ (z : Clause-F Stmt Block Clause). takes_rest z.label) (out-roll-Clause (clear_clause (map-Clause Stmt Block Clause Stmt Block Clause bare_stmt bare_block bare_clause (out-Clause c)))) ∙ label_kept (out-Clause c).label
 
-  clauses_run : (d n : ℕ) (s : Bool) → Prints true any true is_apart (λ z. z) (flat_map (λ c. feed n ++ clause_words n c)) (λ s'. s ≡ s') (All_like SameClause) (Run (clause_at d S) is_last_clause s) (λ s'. Run (clause_at d S) is_last_clause s')
+  clauses_run : (d n : ℕ) (s : Bool) → Prints true any true is_apart (λ z. z) (flat_map (λ c. feed n ++ clause_words n c)) (λ s'. s ≡ s') (AllLike SameClause) (Run (clause_at d S) is_last_clause s) (λ s'. Run (clause_at d S) is_last_clause s')
   clauses_run d n = print_run {Rel = λ s s'. s ≡ s'} apart_free each (λ s s' c c' near same. rest_kept c c' same)
     where
       each : (s : Bool) → Prints true any false is_apart (λ z. z) (λ c. feed n ++ clause_words n c) (λ s'. s ≡ s') SameClause (clause_at d S s) (clause_at d S)
@@ -105,13 +105,13 @@ module _ (S : Rule Stmt) (law : Stated S) where
             (ws, written, sound, begun, λ a near ms f. let (b', r', same) = make tt tt ms f in (b', subst (λ z. clause_at d S z ms b') near r', same));
       }
 
-  rest_prints : (d n : ℕ) → Writes true false is_apart (λ cs. flat_map (λ c. feed n ++ clause_words n c) cs ++ (feed n ++ codes "}")) (λ xs ys. map bare_clause xs ≡ map bare_clause ys) (Rest_of_clauses d S) (Rest_of_clauses d S)
+  rest_prints : (d n : ℕ) → Writes true false is_apart (λ cs. flat_map (λ c. feed n ++ clause_words n c) cs ++ (feed n ++ codes "}")) (λ xs ys. map bare_clause xs ≡ map bare_clause ys) (ClausesTail d S) (ClausesTail d S)
   rest_prints d n = print_then {q = is_apart} {e' = false} (fed_clause d n) (λ w i. i) apart_free
       (λ c. print_after_told (clauses_run d n (is_last_clause false c)) (λ a near. rest_kept c a.1 near.1)
       (λ cs. print_led {e' = true} {q = is_free} (taken_mark t.CloseBrace (feed n) refl (indent_gap n) (λ u g i. refl)) (λ c' ws b. leads_free _ (sign (feed n) t.CloseBrace) ws refl b)
       (λ c'. print_only (simp append_assoc) (λ a near. ap₂ (λ v w. v ∷ w) near.0.0.1 (like_map bare_clause cs a.0.1 near.0.1)))) apart_free)
 
-  pub clauses_print : (d n : ℕ) → Writes false false is_flush (braces_text n) (λ xs ys. map bare_clause xs ≡ map bare_clause ys) (Clauses_of d S) (Clauses_of d S)
+  pub clauses_print : (d n : ℕ) → Writes false false is_flush (braces_text n) (λ xs ys. map bare_clause xs ≡ map bare_clause ys) (ClausesOf d S) (ClausesOf d S)
   clauses_print d n = print_or
       (print_nested d (print_led {e' = false} {q = is_apart} (taken_mark t.OpenBrace [] refl refl (λ u g i. refl)) (λ c ws b. leads_apart _ (sign [] t.OpenBrace) ws refl b)
       (λ c. print_in (λ b z h. ap (λ v. codes "{" ++ v) h) (rest_prints (less d) n))))

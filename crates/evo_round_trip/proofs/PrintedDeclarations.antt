@@ -4,7 +4,7 @@ use Rattle.std.specs.Prelude.{◌&&◌, not}
 use Rattle.std.specs.List.{flat_map}
 use Rattle.evo_base.specs.declared.place.Place.{Place}
 use Rattle.evo_combinators.specs.Guard.{Run}
-use Rattle.evo_round_trip.proofs.Alike.{All_like}
+use Rattle.evo_round_trip.proofs.Alike.{AllLike}
 use Rattle.evo_tree.specs.declared.declaration.Attr.{Attr}
 use Rattle.evo_tree.specs.declared.declaration.AttrKind.{AttrKind}
 use Rattle.evo_tree.specs.declared.declaration.Modifier.{Modifier}
@@ -15,28 +15,28 @@ use Rattle.evo_tree.specs.declared.declaration.DeclKind.TheOpen as o
 use Rattle.evo_tree.specs.declared.scope.Scope.{Scope}
 use Rattle.evo_tree.specs.Pieces.{Piece}
 use Rattle.evo_tree.specs.Expressions.{Rule}
-use Rattle.evo_tree.specs.Declarations.{Attributes, Modifiers, ordered_attributes, ordered_modifiers, has_attribute, has_modifier, with_access, is_protocol, has_access, declaration, one_kind, Declaration_of, Next, Below, Lines}
+use Rattle.evo_tree.specs.Declarations.{Attributes, Modifiers, ordered_attributes, ordered_modifiers, has_attribute, has_modifier, with_access, is_protocol, has_access, declaration, one_kind, DeclarationOf, Next, Below, Lines}
 use Rattle.evo_tree.specs.Bare.{bare_attr, bare_modifier, bare_kind}
 use Rattle.evo_tree.specs.Canonical.{Text, line, attr_text, modifier_text, decl_text}
 use Rattle.evo_print.specs.Texts.{kind_text}
 use Rattle.evo_round_trip.proofs.Written.{Written, joined, Sound}
-use Rattle.evo_round_trip.proofs.Matching.{Genuine}
+use Rattle.evo_round_trip.proofs.Matching.{FromText}
 use Rattle.evo_round_trip.proofs.Printed.{begins, is_apart, is_flush, is_free, Matched, firm_parts, genuine_left, genuine_right, joined_append, sound_append, begins_append, begins_within}
 use Rattle.evo_round_trip.proofs.Prints.{lead, lead_sound, lead_joined, lead_begins, lead_fits}
 use Rattle.evo_round_trip.proofs.Heads.{is_calm, calm_flush, apart_free}
 use Rattle.evo_round_trip.proofs.DeclarationTrees.{SameKind, SameDecl, below, bare_is, declaration_is, decl_same}
 use Rattle.evo_round_trip.proofs.PrintedBlocks.{feed, indent_gap}
-use Rattle.evo_round_trip.proofs.PrintedKinds.{Kinds, Kinded, All_of}
+use Rattle.evo_round_trip.proofs.PrintedKinds.{Kinds, Kinded, AllOf}
 
 -- ---- what stands before a kind
 
-abbrev pub Attributes_front : Type 0
-Attributes_front = (d : ℕ) (us : List Piece) (attrs : List Attr) → Genuine us → Attributes d us attrs → (ys : List Written) → begins false is_calm ys ≡ true → Sound ys →
+abbrev pub AttributesFront : Type 0
+AttributesFront = (d : ℕ) (us : List Piece) (attrs : List Attr) → FromText us → Attributes d us attrs → (ys : List Written) → begins false is_calm ys ≡ true → Sound ys →
     (zs : List Written) × (joined zs ≡ flat_map (λ a. attr_text a.kind) (ordered_attributes attrs) ++ joined ys) × Sound zs × (begins false is_calm zs ≡ true)
     × ((ms : List Piece) → Matched false ms zs → (ns : List Piece) × (ps : List Piece) × (attrs' : List Attr) × (ms ≡ ns ++ ps) × Attributes d ns attrs' × (map bare_attr (ordered_attributes attrs') ≡ map bare_attr (ordered_attributes attrs)) × ((k : AttrKind) → has_attribute k attrs' ≡ has_attribute k attrs) × Matched false ps ys)
 
-abbrev pub Modifiers_front : Type 0
-Modifiers_front = (us : List Piece) (mods : List Modifier) → Genuine us → Modifiers us mods → (b : Bool) (p : Place) → (ys : List Written) → begins false is_calm ys ≡ true → Sound ys →
+abbrev pub ModifiersFront : Type 0
+ModifiersFront = (us : List Piece) (mods : List Modifier) → FromText us → Modifiers us mods → (b : Bool) (p : Place) → (ys : List Written) → begins false is_calm ys ≡ true → Sound ys →
     (zs : List Written) × (joined zs ≡ flat_map (λ m. modifier_text m.kind) (with_access b p (ordered_modifiers mods)) ++ joined ys) × Sound zs × (begins false is_calm zs ≡ true)
     × ((ms : List Piece) → Matched false ms zs → (ns : List Piece) × (ps : List Piece) × (mods' : List Modifier) × (ms ≡ ns ++ ps) × Modifiers ns mods'
     × ((p' : Place) → map bare_modifier (with_access b p' (ordered_modifiers mods')) ≡ map bare_modifier (with_access b p (ordered_modifiers mods))) × (has_modifier modifier.Override mods' ≡ has_modifier modifier.Override mods) × Matched false ps ys)
@@ -88,11 +88,11 @@ pub record Each (G : Rule (List Decl)) (n : ℕ) (x : Decl) : Type 0 where
   pub begun : begins false is_calm written ≡ true
   pub again : (ms : List Piece) → Matched false ms written → (x' : Decl) × G ms (x' ∷ []) × SameDecl x x'
 
-module _ (attributes : Attributes_front) (modifiers : Modifiers_front) (s : Scope) (d n : ℕ) (K : List Attr → Rule Kinds) (kinded : (attrs : List Attr) (us : List Piece) (w : Kinds) → Genuine us → K attrs us w → All_of (Kinded K n attrs) w.1) where
+module _ (attributes : AttributesFront) (modifiers : ModifiersFront) (s : Scope) (d n : ℕ) (K : List Attr → Rule Kinds) (kinded : (attrs : List Attr) (us : List Piece) (w : Kinds) → FromText us → K attrs us w → AllOf (Kinded K n attrs) w.1) where
   abbrev Group : Rule (List Decl)
-  Group = Declaration_of s d K
+  Group = DeclarationOf s d K
 
-  each : (v1 v3 : List Piece) (attrs : List Attr) (mods : List Modifier) → Genuine v1 → Genuine v3 → Attributes d v1 attrs → Modifiers v3 mods → (p : Place) (x : DeclKind) → Kinded K n attrs x → Each Group n (declaration s attrs mods p x)
+  each : (v1 v3 : List Piece) (attrs : List Attr) (mods : List Modifier) → FromText v1 → FromText v3 → Attributes d v1 attrs → Modifiers v3 mods → (p : Place) (x : DeclKind) → Kinded K n attrs x → Each Group n (declaration s attrs mods p x)
   each v1 v3 attrs mods g1 g3 a m p x k =
       let (ys, text, sound, begun, again) = modifiers v3 mods g3 m (has_access s mods x) p k.written k.begun k.sound in
       let (zs, text', sound', begun', again') = attributes d v1 attrs g1 a ys begun sound in
@@ -119,28 +119,28 @@ module _ (attributes : Attributes_front) (modifiers : Modifiers_front) (s : Scop
           (record { place = p'; attrs = ordered_attributes attrs'; modifiers = with_access (has_access s mods' x') p' (ordered_modifiers mods'); kind = x' })
           (sym sames) (sym (ap (λ b. map bare_modifier (with_access b p' (ordered_modifiers mods'))) (access_kept s mods mods' x x' over same) ∙ sames2)) same
 
-  all_each : (v1 v3 : List Piece) (attrs : List Attr) (mods : List Modifier) → Genuine v1 → Genuine v3 → Attributes d v1 attrs → Modifiers v3 mods → (p : Place) (xs : List DeclKind) → All_of (Kinded K n attrs) xs → All_of (Each Group n) (map (declaration s attrs mods p) xs)
+  all_each : (v1 v3 : List Piece) (attrs : List Attr) (mods : List Modifier) → FromText v1 → FromText v3 → Attributes d v1 attrs → Modifiers v3 mods → (p : Place) (xs : List DeclKind) → AllOf (Kinded K n attrs) xs → AllOf (Each Group n) (map (declaration s attrs mods p) xs)
   all_each v1 v3 attrs mods g1 g3 a m p [] all = tt
   all_each v1 v3 attrs mods g1 g3 a m p (x ∷ xs) (k, all) = (each v1 v3 attrs mods g1 g3 a m p x k, all_each v1 v3 attrs mods g1 g3 a m p xs all)
 
   -- each declaration that one of the source makes
-  pub group_each : (us : List Piece) (ds : List Decl) → Genuine us → Group us ds → All_of (Each Group n) ds
+  pub group_each : (us : List Piece) (ds : List Decl) → FromText us → Group us ds → AllOf (Each Group n) ds
   group_each us ds gen (attrs, v1, v2, cut, a, (mods, v3, v4, cut2, m, (w, v5, v6, cut3, kd, (none, is)))) =
-      let g : Genuine (v1 ++ v2) = subst Genuine cut gen in
-      let g2 : Genuine (v3 ++ v4) = subst Genuine cut2 (genuine_right v1 v2 g) in
-      let g4 : Genuine (v5 ++ v6) = subst Genuine cut3 (genuine_right v3 v4 g2) in
-      subst (All_of (Each Group n)) (sym is) (all_each v1 v3 attrs mods (genuine_left v1 v2 g) (genuine_left v3 v4 g2) a m w.0 w.1 (kinded attrs v5 w (genuine_left v5 v6 g4) kd))
+      let g : FromText (v1 ++ v2) = subst FromText cut gen in
+      let g2 : FromText (v3 ++ v4) = subst FromText cut2 (genuine_right v1 v2 g) in
+      let g4 : FromText (v5 ++ v6) = subst FromText cut3 (genuine_right v3 v4 g2) in
+      subst (AllOf (Each Group n)) (sym is) (all_each v1 v3 attrs mods (genuine_left v1 v2 g) (genuine_left v3 v4 g2) a m w.0 w.1 (kinded attrs v5 w (genuine_left v5 v6 g4) kd))
 
 -- ---- declarations one below the other
 
 module _ (G : Rule (List Decl)) (n : ℕ) where
   -- written, each line behind a line feed
-  pub record Below_each (xs : List Decl) (R : List Piece → List (List Decl) → Type 0) : Type 0 where
+  pub record BelowEach (xs : List Decl) (R : List Piece → List (List Decl) → Type 0) : Type 0 where
     pub written : List Written
     pub text : joined written ++ codes "\n" ≡ codes "\n" ++ flat_map (λ x. decl_text x n) xs
     pub sound : Sound written
     pub begun : begins true is_apart written ≡ true
-    pub again : (ms : List Piece) → Matched true ms written → (gs : List (List Decl)) × R ms gs × All_like SameDecl xs (flat_map (λ g. g) gs)
+    pub again : (ms : List Piece) → Matched true ms written → (gs : List (List Decl)) × R ms gs × AllLike SameDecl xs (flat_map (λ g. g) gs)
 
   abbrev Further : List Piece → List (List Decl) → Type 0
   Further = Run (λ _. Next G) (λ first _. first) true
@@ -163,7 +163,7 @@ module _ (G : Rule (List Decl)) (n : ℕ) where
   led_begins x each = lead_begins (feed n) refl each.written (begins_within false false is_calm is_flush each.written (λ h. h) calm_flush each.begun)
 
   -- those below a first one
-  further : (xs : List Decl) → All_of (Each G n) xs → Below_each xs Further
+  further : (xs : List Decl) → AllOf (Each G n) xs → BelowEach xs Further
   further [] all = record { written = []; text = refl; sound = tt; begun = refl; again = λ ms f. ([], none ms f, tt) }
     where
       none : (ms : List Piece) → Matched true ms [] → ms ≡ []
@@ -195,7 +195,7 @@ module _ (G : Rule (List Decl)) (n : ℕ) where
       below (w ∷ ws) (m ∷ ms) b f g = (m, ms, refl, f.0.1, g)
 
   -- all of them
-  pub lines_each : (xs : List Decl) → All_of (Each G n) xs → Below_each xs (Lines G)
+  pub lines_each : (xs : List Decl) → AllOf (Each G n) xs → BelowEach xs (Lines G)
   lines_each [] all = record { written = []; text = refl; sound = tt; begun = refl; again = λ ms f. ([], inr (none ms f, refl), tt) }
     where
       none : (ms : List Piece) → Matched true ms [] → ms ≡ []
@@ -222,23 +222,23 @@ module _ (G : Rule (List Decl)) (n : ℕ) where
       loose (m ∷ ms) (w ∷ ws) f = (f.0.0, f.1)
 
   -- those of a text, which another rule or the same spells
-  pub each_line : ((us : List Piece) (ds : List Decl) → Genuine us → G us ds → All_of (Each G n) ds) → (us : List Piece) (gs : List (List Decl)) → Genuine us → Lines G us gs → All_of (Each G n) (flat_map (λ g. g) gs)
+  pub each_line : ((us : List Piece) (ds : List Decl) → FromText us → G us ds → AllOf (Each G n) ds) → (us : List Piece) (gs : List (List Decl)) → FromText us → Lines G us gs → AllOf (Each G n) (flat_map (λ g. g) gs)
   each_line one us gs gen (inl (g, vs, ws, cut, first, (rest, v2, w2, cut2, run, (none, is)))) =
-      let gen' : Genuine (vs ++ ws) = subst Genuine cut gen in
-      subst (λ z. All_of (Each G n) (flat_map (λ g. g) z)) (sym is) (all_append g (flat_map (λ g. g) rest) (one vs g (genuine_left vs ws gen') first) (more true v2 rest (genuine_left v2 w2 (subst Genuine cut2 (genuine_right vs ws gen'))) run))
+      let gen' : FromText (vs ++ ws) = subst FromText cut gen in
+      subst (λ z. AllOf (Each G n) (flat_map (λ g. g) z)) (sym is) (all_append g (flat_map (λ g. g) rest) (one vs g (genuine_left vs ws gen') first) (more true v2 rest (genuine_left v2 w2 (subst FromText cut2 (genuine_right vs ws gen'))) run))
     where
-      all_append : (xs ys : List Decl) → All_of (Each G n) xs → All_of (Each G n) ys → All_of (Each G n) (xs ++ ys)
+      all_append : (xs ys : List Decl) → AllOf (Each G n) xs → AllOf (Each G n) ys → AllOf (Each G n) (xs ++ ys)
       all_append [] ys p q = q
       all_append (x ∷ xs) ys p q = (p.0, all_append xs ys p.1 q)
 
-      next : (us : List Piece) (g : List Decl) → Genuine us → Next G us g → All_of (Each G n) g
-      next us g gen (inl (u, c, vs, at, takes, s)) = one vs g (subst Genuine at gen).2 s
+      next : (us : List Piece) (g : List Decl) → FromText us → Next G us g → AllOf (Each G n) g
+      next us g gen (inl (u, c, vs, at, takes, s)) = one vs g (subst FromText at gen).2 s
       next us g gen (inr (inl (u, vs, at, is, s))) = one us g gen s
       next us g gen (inr (inr s)) = absurd s
 
-      more : (b : Bool) (us : List Piece) (gs : List (List Decl)) → Genuine us → Run (λ _. Next G) (λ first _. first) b us gs → All_of (Each G n) (flat_map (λ g. g) gs)
+      more : (b : Bool) (us : List Piece) (gs : List (List Decl)) → FromText us → Run (λ _. Next G) (λ first _. first) b us gs → AllOf (Each G n) (flat_map (λ g. g) gs)
       more b us [] gen run = tt
       more b us (g ∷ gs) gen (vs, ws, cut, s, run) =
-          let gen' : Genuine (vs ++ ws) = subst Genuine cut gen in
+          let gen' : FromText (vs ++ ws) = subst FromText cut gen in
           all_append g (flat_map (λ g. g) gs) (next vs g (genuine_left vs ws gen') s) (more b ws gs (genuine_right vs ws gen') run)
-  each_line one us gs gen (inr (none, is)) = subst (λ z. All_of (Each G n) (flat_map (λ g. g) z)) (sym is) tt
+  each_line one us gs gen (inr (none, is)) = subst (λ z. AllOf (Each G n) (flat_map (λ g. g) z)) (sym is) tt

@@ -1,8 +1,8 @@
 -- Expressions are written: chains of operators over a rule of operands.
 use Rattle.std.proofs.Common.{◌≡◌, List, [], ◌∷◌, ◌++◌, Bool, true, false, codes, refl, sym, ◌∙◌, ap, ap₂, append_assoc, append-nil, Option}
 use Rattle.std.specs.List.{flat_map}
-use Rattle.evo_combinators.specs.Rule.{Only, Led, Then}
-use Rattle.evo_round_trip.proofs.Alike.{All_like}
+use Rattle.evo_combinators.specs.Rule.{Empty, TokenThen, Then}
+use Rattle.evo_round_trip.proofs.Alike.{AllLike}
 use Rattle.evo_tree.specs.declared.expression.InfixOperator.{InfixOperator}
 use Rattle.evo_tree.specs.declared.expression.Expr.{Expr}
 use Rattle.evo_tree.specs.declared.expression.Expr.TheVariants as e
@@ -17,7 +17,7 @@ use Rattle.evo_print.proofs.ExpressionTexts.{chain_text}
 use Rattle.evo_round_trip.proofs.Written.{Written}
 use Rattle.evo_round_trip.proofs.Printed.{any, is_apart}
 use Rattle.evo_round_trip.proofs.Prints.{Prints, Writes, Alone, print_only, print_or, print_led, print_then, print_after, print_many, print_behind, print_firm, print_more}
-use Rattle.evo_round_trip.proofs.Takens.{between, Again, taken_infix, multiplying_again, adding_again, comparing_again, conjoining_again, disjoining_again}
+use Rattle.evo_round_trip.proofs.TakenTokens.{between, Again, taken_infix, multiplying_again, adding_again, comparing_again, conjoining_again, disjoining_again}
 use Rattle.evo_round_trip.proofs.Heads.{is_head, head_flush, apart_free, leads_infix, Begun, any_head}
 use Rattle.evo_round_trip.proofs.ExpressionTrees.{SameExpr, like_map}
 
@@ -37,7 +37,7 @@ module _ (h : Terminal → Option InfixOperator) (again : Again h) (S : Rule Exp
   operand_leaf o y = simp (append_assoc, append-nil)
 
   -- an operator and its operand
-  operand_prints : Writes true false is_apart operand SameOperand (Led (infix_by h) (λ o. Then S (λ y. Only (o, y)))) (Led (infix_by h) (λ o. Then S (λ y. Only (o, y))))
+  operand_prints : Writes true false is_apart operand SameOperand (TokenThen (infix_by h) (λ o. Then S (λ y. Empty (o, y)))) (TokenThen (infix_by h) (λ o. Then S (λ y. Empty (o, y))))
   operand_prints = print_led (taken_infix (λ o. refl) again) (λ o ws b. leads_infix (between o) ws refl b)
       (λ o. print_then {q = is_apart} (print_firm (expressed_behind S law)) (λ w i. i) apart_free (λ y. print_only (operand_leaf o y) (λ a near. ap₂ (λ v w. (v, w)) near.0.1 near.1)))
 
@@ -45,7 +45,7 @@ module _ (h : Terminal → Option InfixOperator) (again : Again h) (S : Rule Exp
   chain_leaf x [] = append-nil (expr_text x)
   chain_leaf x (o ∷ os) = ap (λ z. expr_text x ++ z) (append-nil (flat_map operand (o ∷ os))) ∙ sym (chain_text (e.Chain x (o ∷ os)) x (o ∷ os) refl)
 
-  chain_like : (x y : Expr) (os us : List (InfixOperator × Expr)) → SameExpr x y → All_like SameOperand os us → SameExpr (chain x os) (chain y us)
+  chain_like : (x y : Expr) (os us : List (InfixOperator × Expr)) → SameExpr x y → AllLike SameOperand os us → SameExpr (chain x os) (chain y us)
   chain_like x y [] [] s l = s
   chain_like x y [] (u ∷ us) s l = absurd l
   chain_like x y (o ∷ os) [] s l = absurd l

@@ -2,7 +2,7 @@
 use Rattle.std.proofs.Common.{◌≡◌, ℕ, zero, suc, List, [], ◌∷◌, ◌++◌, ◌⊎◌, map, Bool, true, false, codes, Option, Some, None, refl, sym, ◌∙◌, ap, ap₂, subst, inl, inr, cond, append_assoc, append-nil}
 use Rattle.std.specs.Prelude.{not}
 use Rattle.std.specs.Option.{option_map}
-use Rattle.evo_combinators.specs.Rule.{Only, Led, Or, Then}
+use Rattle.evo_combinators.specs.Rule.{Empty, TokenThen, Or, Then}
 use Rattle.evo_tree.specs.declared.name.TypeName.{TypeName}
 use Rattle.evo_tree.specs.declared.declaration.GenericParameter.{GenericParameter}
 use Rattle.evo_tree.specs.declared.declaration.Parameter.{Parameter}
@@ -16,20 +16,20 @@ use Rattle.evo_tree.specs.declared.terminal.Terminal.TheVariants as t
 use Rattle.evo_tree.specs.Pieces.{Piece, mark}
 use Rattle.evo_tree.specs.Expressions.{Rule, Nested}
 use Rattle.evo_tree.specs.Types.{IsType}
-use Rattle.evo_tree.specs.Declarations.{only_if, Separated, is_protocol, Protocols, IsRequirement, is_void, Result, header, Returns, Requirements, IsHeader, IsPayload, Rest_of_payloads}
+use Rattle.evo_tree.specs.Declarations.{only_if, Separated, is_protocol, Protocols, IsRequirement, is_void, Result, header, Returns, Requirements, IsHeader, IsPayload, PayloadsTail}
 use Rattle.evo_tree.specs.Bare.{origin, bare_type, bare_generic, bare_parameter, bare_requirement, bare_header, bare_payload}
 use Rattle.evo_tree.specs.Canonical.{listed, optional, unless_empty, type_text, constraint_text, requirement_text, header_text, payload_text}
 use Rattle.evo_tree.specs.Canonical as canonical
 use Rattle.evo_round_trip.proofs.Written.{Written, Sound, joined}
-use Rattle.evo_round_trip.proofs.Matching.{Genuine}
+use Rattle.evo_round_trip.proofs.Matching.{FromText}
 use Rattle.evo_round_trip.proofs.Printed.{Text, any, any_begins, begins, begins_within, is_apart, is_free, Matched, leads_free}
 use Rattle.evo_round_trip.proofs.Prints.{Writes, Alone, print_alone, print_in, print_only, print_or, print_led, print_nested, print_then, print_after, print_behind, print_firm, print_more}
 use Rattle.evo_round_trip.proofs.Spellings.{sign, named}
 use Rattle.evo_round_trip.proofs.Tokens.{spelled}
-use Rattle.evo_round_trip.proofs.Takens.{taken_mark, taken_name}
+use Rattle.evo_round_trip.proofs.TakenTokens.{taken_mark, taken_name}
 use Rattle.evo_round_trip.proofs.TakenTypes.{taken_infix_mark, taken_if}
 use Rattle.evo_round_trip.proofs.Heads.{is_calm, calm_flush, apart_free, leads_apart, leads_infix, leads_calm}
-use Rattle.evo_round_trip.proofs.Snug.{is_snug, is_marked, marked_free, marked_snug}
+use Rattle.evo_round_trip.proofs.Adjacent.{is_snug, is_marked, marked_free, marked_snug}
 use Rattle.evo_round_trip.proofs.PrintedTypes.{SameType, SameTypes, SameBy, SameAllBy, print_of, some_separated, separated_prints, type_prints, type_behind, protocols_print}
 use Rattle.evo_round_trip.proofs.PrintedParameters.{generics_text, generics_print, parameters_print}
 
@@ -42,7 +42,7 @@ abbrev pub returns_text : Option TypeName → Text
 returns_text = optional (λ x. codes " -> " ++ type_text x)
 
 abbrev Arrowed : Bool → Rule TypeName
-Arrowed may = Led (only_if may (mark t.Arrow)) (λ _. IsType)
+Arrowed may = TokenThen (only_if may (mark t.Arrow)) (λ _. IsType)
 
 arrowed_prints : (may : Bool) → Writes true false is_apart (λ x. codes " -> " ++ type_text x) SameType (Arrowed may) (Arrowed may)
 arrowed_prints may = print_led {e' = false} {q = is_apart} (taken_if may (taken_mark t.Arrow (codes " ") refl refl (λ u g i. refl))) (λ c ws b. leads_apart _ (sign (codes " ") t.Arrow) ws refl b)
@@ -77,7 +77,7 @@ returns_print d may = record { holds = go }
         let void : is_void y.names ≡ false = ap is_void (sym (ap (λ (z : TypeName). z.names) same)) ∙ some in
         inl (u, c, vs, at, takes, inr (y, vs, [], sym (append-nil vs), s, (refl, sym (ap (λ z. cond z None (Some y)) void))))
 
-    one : (us : List Piece) (x : TypeName) → Genuine us → Arrowed may us x → is_void x.names ≡ false → Comes (Some x)
+    one : (us : List Piece) (x : TypeName) → FromText us → Arrowed may us x → is_void x.names ≡ false → Comes (Some x)
     one us x gen s some =
         let (ws, written, sound, begun, make) = (arrowed_prints may).holds us x gen (any_begins us) s in (
           ws,
@@ -89,7 +89,7 @@ returns_print d may = record { holds = go }
               (Some y, again ms x y some same r, ap (λ z. Some z) same),
         )
 
-    go : (us : List Piece) (b : Option TypeName) → Genuine us → begins true any us ≡ true → Returns d may us b → Comes b
+    go : (us : List Piece) (b : Option TypeName) → FromText us → begins true any us ≡ true → Returns d may us b → Comes b
     go us b gen fst (inr only) = subst Comes (sym only.1) none
     go us b gen fst (inl (u, c, vs, at, takes, r)) = elim (result_is d vs b r) [
       | inl is ↦ subst Comes (sym is) none
@@ -121,7 +121,7 @@ requirement_prints = print_then {e' = false} type_prints (λ w i. i) (λ w i. i)
     same_leaf : (a b : TypeName) → type_text a ++ (codes " " ++ (codes "==" ++ ((codes " " ++ type_text b) ++ []))) ≡ (type_text a ++ codes " == ") ++ type_text b
     same_leaf a b = simp (append_assoc, append-nil)
 
-    leaf : (a : TypeName) (us : List Piece) (r : Requirement) → Then Protocols (λ ps. Only (requirement.Conforms a ps)) us r → (z : Text) → z ≡ rest_text r → type_text a ++ (codes ":" ++ z) ≡ requirement_text r
+    leaf : (a : TypeName) (us : List Piece) (r : Requirement) → Then Protocols (λ ps. Empty (requirement.Conforms a ps)) us r → (z : Text) → z ≡ rest_text r → type_text a ++ (codes ":" ++ z) ≡ requirement_text r
     leaf a us r (ps, vs, ws, at, s, only) z h =
         let (x, xs, is) = some_separated t.And IsType vs ps s in
         let is' : r ≡ requirement.Conforms a (x ∷ xs) = only.1 ∙ ap (λ v. requirement.Conforms a v) is in
@@ -181,7 +181,7 @@ abbrev pub payloads_text : List Payload → Text
 payloads_text = unless_empty (codes "(") (listed payload_text) (codes ")")
 
 -- [ "(" payload { "," payload } ")" ]
-pub payloads_print : (d : ℕ) → Writes true true is_free payloads_text (SameAllBy bare_payload) (Or (Nested d (mark t.OpenParenthesis) (λ _. Rest_of_payloads)) (Only [])) (Or (Nested d (mark t.OpenParenthesis) (λ _. Rest_of_payloads)) (Only []))
+pub payloads_print : (d : ℕ) → Writes true true is_free payloads_text (SameAllBy bare_payload) (Or (Nested d (mark t.OpenParenthesis) (λ _. PayloadsTail)) (Empty [])) (Or (Nested d (mark t.OpenParenthesis) (λ _. PayloadsTail)) (Empty []))
 payloads_print d = print_or
     (print_nested d (print_led {e' = false} {q = is_calm} (taken_mark t.OpenParenthesis [] refl refl (λ u g i. refl)) (λ c ws b. leads_calm _ (sign [] t.OpenParenthesis) ws (λ k. refl) refl b)
     (λ c. print_of leaf (print_then {before = λ z. z} {out = λ ps. listed payload_text ps ++ codes ")"} {e' = false} (print_firm many) (λ w i. i) (λ w i. i)
@@ -192,7 +192,7 @@ payloads_print d = print_or
     many : Writes false false is_calm (listed payload_text) (SameAllBy bare_payload) (Separated t.Comma IsPayload) (Separated t.Comma IsPayload)
     many = separated_prints bare_payload IsPayload t.Comma [] refl refl refl calm_flush payload_prints
 
-    leaf : (us : List Piece) (ps : List Payload) → Rest_of_payloads us ps → (z : Text) → z ≡ listed payload_text ps ++ codes ")" → codes "(" ++ z ≡ payloads_text ps
+    leaf : (us : List Piece) (ps : List Payload) → PayloadsTail us ps → (z : Text) → z ≡ listed payload_text ps ++ codes ")" → codes "(" ++ z ≡ payloads_text ps
     leaf us ps (xs, vs, ws, at, s, (u, c, ys, cut, takes, only)) z h =
         let (y, ys, is) = some_separated t.Comma IsPayload vs xs s in
         ap (λ v. codes "(" ++ v) h ∙ subst (λ v. codes "(" ++ (listed payload_text v ++ codes ")") ≡ payloads_text v) (sym (only.1 ∙ is)) refl

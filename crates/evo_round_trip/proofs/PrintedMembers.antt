@@ -3,7 +3,7 @@ use Rattle.std.proofs.Common.{◌≡◌, ℕ, List, [], ◌∷◌, ◌++◌, Boo
 use Rattle.std.specs.Prelude.{◌&&◌, ◌||◌, not, if◌then◌else◌}
 use Rattle.std.specs.Option.{option_map}
 use Rattle.evo_base.specs.declared.place.Place.{Place}
-use Rattle.evo_combinators.specs.Rule.{Only, Led, Then, Many}
+use Rattle.evo_combinators.specs.Rule.{Empty, TokenThen, Then, Many}
 use Rattle.evo_tree.specs.declared.name.Identifier.{Identifier}
 use Rattle.evo_tree.specs.declared.name.TypeName.{TypeName}
 use Rattle.evo_tree.specs.declared.statement.Block.{Block}
@@ -21,12 +21,12 @@ use Rattle.evo_tree.specs.declared.terminal.Terminal.{Terminal}
 use Rattle.evo_tree.specs.declared.terminal.Terminal.TheVariants as t
 use Rattle.evo_tree.specs.Pieces.{Piece, mark}
 use Rattle.evo_tree.specs.Expressions.{Rule}
-use Rattle.evo_tree.specs.Declarations.{only_if, has_attribute, is_protocol, is_enum, is_frozen, has_storage, has_body, may_stand, may_be_stored, one_kind, Separated, Default, IsCase, Rest_of_function, Rest_of_initialiser, Rest_of_var, Rest_of_let, Rest_of_alias, Rest_of_associated, Rest_of_cases, Member_kind}
+use Rattle.evo_tree.specs.Declarations.{only_if, has_attribute, is_protocol, is_enum, is_frozen, has_storage, has_body, may_stand, may_be_stored, one_kind, Separated, Default, IsCase, FunctionTail, InitialiserTail, VarTail, LetTail, AliasTail, AssociatedTail, CasesTail, MemberKind}
 use Rattle.evo_tree.specs.Bare.{bare_type}
 use Rattle.evo_tree.specs.Canonical.{Text, type_text, optional, header_text, body_text, accessors_text, constraint_text}
 use Rattle.evo_print.specs.Texts.{kind_text}
 use Rattle.evo_round_trip.proofs.Written.{Written}
-use Rattle.evo_round_trip.proofs.Matching.{Genuine}
+use Rattle.evo_round_trip.proofs.Matching.{FromText}
 use Rattle.evo_round_trip.proofs.Printed.{any, any_begins, is_apart, is_free, leads_free, Matched, all_matched, genuine_left, genuine_right}
 use Rattle.evo_round_trip.proofs.Prints.{Prints, Writes, Alone, print_only, print_or, print_led, print_then, print_after, print_after_told, print_firm}
 use Rattle.evo_round_trip.proofs.Spellings.{sign, named}
@@ -35,14 +35,14 @@ use Rattle.evo_parse_expr.proofs.Tests.{number_is}
 use Rattle.evo_lex.specs.Front.{when}
 use Rattle.evo_tree.specs.Terminals.{number_of}
 use Rattle.evo_tree.specs.declared.terminal.Role.TheVariants as role
-use Rattle.evo_round_trip.proofs.Takens.{taken_mark, taken_name}
+use Rattle.evo_round_trip.proofs.TakenTokens.{taken_mark, taken_name}
 use Rattle.evo_round_trip.proofs.Heads.{is_calm, apart_free, leads_apart}
-use Rattle.evo_round_trip.proofs.Snug.{is_snug, leads_snug}
+use Rattle.evo_round_trip.proofs.Adjacent.{is_snug, leads_snug}
 use Rattle.evo_round_trip.proofs.PrintedTypes.{type_behind, conforming_prints}
 use Rattle.evo_round_trip.proofs.PrintedHeaders.{header_prints, payloads_text, payloads_print}
 use Rattle.evo_round_trip.proofs.DeclarationTrees.{SameKind, function_text, initialiser_text, property_text, alias_text, associated_text, case_text, function_same, initialiser_same, property_same, alias_same, associated_same, case_same}
 use Rattle.evo_round_trip.proofs.PrintedAccessors.{Blocks, body_told, accessors_told}
-use Rattle.evo_round_trip.proofs.PrintedKinds.{Kinds, kinds_text, SameKinds, Attributed, taken_when, One_kind, one_only, one_led, one_then, Kinded, All_of, kinded_one}
+use Rattle.evo_round_trip.proofs.PrintedKinds.{Kinds, kinds_text, SameKinds, Attributed, taken_when, OneKind, one_only, one_led, one_then, Kinded, AllOf, kinded_one}
 use Rattle.evo_tree.specs.Declarations.{Unless, begins_accessors}
 use Rattle.evo_tree.specs.Statements.{IsBlock}
 use Rattle.evo_tree.specs.Canonical.{block_text}
@@ -65,15 +65,15 @@ module _ (interface : Bool) (s : Scope) {attrs attrs' : List Attr} (near : Attri
   stored_flag = ap (λ z. if interface then is_frozen s && not z else has_storage s) inlinable
 
 -- what holds of each item of a list with marks between
-separated_all : {B : Type 0} (m : Terminal) (S : Rule B) (P : B → Type 0) → ((us : List Piece) (b : B) → Genuine us → S us b → P b) → (us : List Piece) (bs : List B) → Genuine us → Separated m S us bs → All_of P bs
+separated_all : {B : Type 0} (m : Terminal) (S : Rule B) (P : B → Type 0) → ((us : List Piece) (b : B) → FromText us → S us b → P b) → (us : List Piece) (bs : List B) → FromText us → Separated m S us bs → AllOf P bs
 separated_all {B} m S P each us bs gen (x, vs, ws, cut, one, (xs, v2, w2, cut2, many, (none, is))) =
-    let gen' : Genuine (vs ++ ws) = subst Genuine cut gen in
-    subst (All_of P) (sym is) (each vs x (genuine_left vs ws gen') one, rest v2 xs (genuine_left v2 w2 (subst Genuine cut2 (genuine_right vs ws gen'))) many)
+    let gen' : FromText (vs ++ ws) = subst FromText cut gen in
+    subst (AllOf P) (sym is) (each vs x (genuine_left vs ws gen') one, rest v2 xs (genuine_left v2 w2 (subst FromText cut2 (genuine_right vs ws gen'))) many)
   where
-    rest : (us : List Piece) (bs : List B) → Genuine us → Many (mark m) (λ _. S) us bs → All_of P bs
+    rest : (us : List Piece) (bs : List B) → FromText us → Many (mark m) (λ _. S) us bs → AllOf P bs
     rest us [] gen none = tt
     rest us (b ∷ bs) gen (u, a, vs, ws, at, takes, one, more) =
-        let gen' : Genuine ((u ∷ vs) ++ ws) = subst Genuine at gen in
+        let gen' : FromText ((u ∷ vs) ++ ws) = subst FromText at gen in
         (each vs b (genuine_left (u ∷ vs) ws gen').2 one, rest ws bs (genuine_right (u ∷ vs) ws gen') more)
 
 -- ---- the rules
@@ -90,7 +90,7 @@ module _ (getter : (d n : ℕ) → Writes false false is_flush (λ b. block_text
       turn v w = simp (append_assoc, append-nil)
 
   -- a function, where a flag lets it stand
-  pub function_told : (flag : List Attr → Bool) → ((attrs attrs' : List Attr) → Attributed attrs attrs' → flag attrs ≡ flag attrs') → Told (λ attrs. Led (only_if (flag attrs) (mark t.Func)) (Rest_of_function Blocks interface s d attrs))
+  pub function_told : (flag : List Attr → Bool) → ((attrs attrs' : List Attr) → Attributed attrs attrs' → flag attrs ≡ flag attrs') → Told (λ attrs. TokenThen (only_if (flag attrs) (mark t.Func)) (FunctionTail Blocks interface s d attrs))
   function_told flag like attrs = print_led {e' = false} {q = is_apart} (taken_when (flag attrs) flag (λ a near. like attrs a near) (taken_mark t.Func [] refl refl (λ u g i. refl))) (λ c ws b. leads_apart _ (sign [] t.Func) ws refl b)
       (λ c. print_led {e' = false} {q = is_snug} (taken_name (codes " ") refl (λ u w g i same. refl)) (λ i ws b. leads_snug _ (named (codes " ") i.text) ws refl refl b)
       (λ i. print_then {q = is_apart} {e' = true} (header_prints s d true) (λ w i. i) apart_free
@@ -101,7 +101,7 @@ module _ (getter : (d n : ℕ) → Writes false false is_flush (λ b. block_text
   initialiser_leaf : (h : Header) (b : Option Block) → codes "init" ++ (header_text h ++ (body_text n b ++ [])) ≡ kind_text (k.Initialiser h b) n ++ []
   initialiser_leaf h b = simp (append_assoc, append-nil) (sym (simp append_assoc at initialiser_text h b n))
 
-  initialiser_told : (flag : Bool) → Told (λ attrs. Led (only_if flag (mark t.Init)) (Rest_of_initialiser Blocks interface s d attrs))
+  initialiser_told : (flag : Bool) → Told (λ attrs. TokenThen (only_if flag (mark t.Init)) (InitialiserTail Blocks interface s d attrs))
   initialiser_told flag attrs = print_led {e' = false} {q = is_snug} (taken_when flag (λ a. flag) (λ a near. refl) (taken_mark t.Init [] refl refl (λ u g i. refl))) (λ c ws b. leads_snug _ (sign [] t.Init) ws refl refl b)
       (λ c. print_then {q = is_apart} {e' = true} (header_prints s d false) (λ w i. i) apart_free
       (λ h. print_after_told (body_told true d n (has_body interface s attrs)) (λ a near. body_flag interface s near.0.0)
@@ -111,7 +111,7 @@ module _ (getter : (d n : ℕ) → Writes false false is_flush (λ b. block_text
   var_leaf : (i : Identifier) (ty : TypeName) (x : Accessors) → codes "var" ++ (codes " " ++ (i.text ++ (codes ":" ++ ((codes " " ++ type_text ty) ++ (accessors_text n x ++ []))))) ≡ kind_text (k.Property introducer.Var i ty x) n ++ []
   var_leaf i ty x = simp (append_assoc, append-nil) (sym (simp append_assoc at property_text introducer.Var i ty x n))
 
-  var_told : (flag : List Attr → Bool) → ((attrs attrs' : List Attr) → Attributed attrs attrs' → flag attrs ≡ flag attrs') → Told (λ attrs. Led (only_if (flag attrs) (mark t.Var)) (Rest_of_var Blocks interface s d attrs))
+  var_told : (flag : List Attr → Bool) → ((attrs attrs' : List Attr) → Attributed attrs attrs' → flag attrs ≡ flag attrs') → Told (λ attrs. TokenThen (only_if (flag attrs) (mark t.Var)) (VarTail Blocks interface s d attrs))
   var_told flag like attrs = print_led {e' = false} {q = is_apart} (taken_when (flag attrs) flag (λ a near. like attrs a near) (taken_mark t.Var [] refl refl (λ u g i. refl))) (λ c ws b. leads_apart _ (sign [] t.Var) ws refl b)
       (λ c. print_led {e' = false} {q = is_free} (taken_name (codes " ") refl (λ u w g i same. refl)) (λ i ws b. leads_free _ (named (codes " ") i.text) ws refl b)
       (λ i. print_led {e' = false} {q = is_apart} (taken_mark t.Colon [] refl refl (λ u g i. refl)) (λ c' ws b. leads_apart _ (sign [] t.Colon) ws refl b)
@@ -126,7 +126,7 @@ module _ (getter : (d n : ℕ) → Writes false false is_flush (λ b. block_text
       turn : (v : Text) → codes "let" ++ (codes " " ++ (i.text ++ (codes ":" ++ ((codes " " ++ v) ++ [])))) ≡ codes "let " ++ i.text ++ (codes ": " ++ v) ++ []
       turn v = simp (append_assoc, append-nil)
 
-  let_told : (flag : List Attr → Bool) → ((attrs attrs' : List Attr) → Attributed attrs attrs' → flag attrs ≡ flag attrs') → Told (λ attrs. Led (only_if (flag attrs) (mark t.Let)) Rest_of_let)
+  let_told : (flag : List Attr → Bool) → ((attrs attrs' : List Attr) → Attributed attrs attrs' → flag attrs ≡ flag attrs') → Told (λ attrs. TokenThen (only_if (flag attrs) (mark t.Let)) LetTail)
   let_told flag like attrs = print_led {e' = false} {q = is_apart} (taken_when (flag attrs) flag (λ a near. like attrs a near) (taken_mark t.Let [] refl refl (λ u g i. refl))) (λ c ws b. leads_apart _ (sign [] t.Let) ws refl b)
       (λ c. print_led {e' = false} {q = is_free} (taken_name (codes " ") refl (λ u w g i same. refl)) (λ i ws b. leads_free _ (named (codes " ") i.text) ws refl b)
       (λ i. print_led {e' = false} {q = is_apart} (taken_mark t.Colon [] refl refl (λ u g i. refl)) (λ c' ws b. leads_apart _ (sign [] t.Colon) ws refl b)
@@ -136,7 +136,7 @@ module _ (getter : (d n : ℕ) → Writes false false is_flush (λ b. block_text
   alias_leaf : (i : Identifier) (ty : TypeName) → codes "typealias" ++ (codes " " ++ (i.text ++ (codes " =" ++ ((codes " " ++ type_text ty) ++ [])))) ≡ kind_text (k.TypeAlias i ty) n ++ []
   alias_leaf i ty = simp (append_assoc, append-nil) (sym (simp append_assoc at alias_text i ty n))
 
-  alias_told : (flag : Bool) → Told (λ attrs. Led (only_if flag (mark t.Typealias)) Rest_of_alias)
+  alias_told : (flag : Bool) → Told (λ attrs. TokenThen (only_if flag (mark t.Typealias)) AliasTail)
   alias_told flag attrs = print_led {e' = false} {q = is_apart} (taken_when flag (λ a. flag) (λ a near. refl) (taken_mark t.Typealias [] refl refl (λ u g i. refl))) (λ c ws b. leads_apart _ (sign [] t.Typealias) ws refl b)
       (λ c. print_led {e' = false} {q = is_apart} (taken_name (codes " ") refl (λ u w g i same. refl)) (λ i ws b. leads_apart _ (named (codes " ") i.text) ws refl b)
       (λ i. print_led {e' = false} {q = is_apart} (taken_mark t.Equal (codes " ") refl refl (λ u g i. refl)) (λ c' ws b. leads_apart _ (sign (codes " ") t.Equal) ws refl b)
@@ -159,7 +159,7 @@ module _ (getter : (d n : ℕ) → Writes false false is_flush (λ b. block_text
       turn : (v w : Text) → codes "associatedtype " ++ (i.text ++ (v ++ w)) ≡ codes "associatedtype " ++ i.text ++ v ++ w
       turn v w = simp append_assoc
 
-  associated_told : (flag : Bool) → Told (λ attrs. Led (only_if flag (mark t.Associatedtype)) Rest_of_associated)
+  associated_told : (flag : Bool) → Told (λ attrs. TokenThen (only_if flag (mark t.Associatedtype)) AssociatedTail)
   associated_told flag attrs = print_led {e' = false} {q = is_apart} (taken_when flag (λ a. flag) (λ a near. refl) (taken_mark t.Associatedtype [] refl refl (λ u g i. refl))) (λ c ws b. leads_apart _ (sign [] t.Associatedtype) ws refl b)
       (λ c. print_led {e' = true} {q = is_free} (taken_name (codes " ") refl (λ u w g i same. refl)) (λ i ws b. leads_free _ (named (codes " ") i.text) ws refl b)
       (λ i. print_after {q = is_free} conforming_prints (λ w i. i) (λ w i. i) (λ w i. i)
@@ -180,13 +180,13 @@ module _ (getter : (d n : ℕ) → Writes false false is_flush (λ b. block_text
       (λ ps. print_only (case_leaf i ps ∙ append-nil (kind_text (k.Case i ps) n)) (λ a near. case_same i a.0.1 ps a.1 near.0.1 near.1)))
 
   -- one case is a list of one
-  alone : (p : Place) (us : List Piece) (w : Kinds) → Then (IsCase d) (λ x. Only (one_kind p x)) us w → Rest_of_cases d p us w
+  alone : (p : Place) (us : List Piece) (w : Kinds) → Then (IsCase d) (λ x. Empty (one_kind p x)) us w → CasesTail d p us w
   alone p us w (x, vs, ws, cut, case, (none, is)) = (x ∷ [], vs, ws, cut, (x, vs, [], sym (append-nil vs), case, ([], [], [], refl, refl, (refl, refl))), (none, is))
 
-  abbrev Case_kinds : List Attr → Rule Kinds
-  Case_kinds attrs = Led (only_if (is_enum s) (mark t.Case)) (Rest_of_cases d)
+  abbrev CaseKinds : List Attr → Rule Kinds
+  CaseKinds attrs = TokenThen (only_if (is_enum s) (mark t.Case)) (CasesTail d)
 
-  case_kinded : is_enum s ≡ true → (attrs : List Attr) (us : List Piece) (x : DeclKind) → Genuine us → IsCase d us x → Kinded Case_kinds n attrs x
+  case_kinded : is_enum s ≡ true → (attrs : List Attr) (us : List Piece) (x : DeclKind) → FromText us → IsCase d us x → Kinded CaseKinds n attrs x
   unfolding mark
   case_kinded may attrs us x gen case =
       let (ws, written, sound, begun, make) = case_prints.holds us x gen (any_begins us) case in
@@ -199,7 +199,7 @@ module _ (getter : (d n : ℕ) → Writes false false is_flush (λ b. block_text
       }
     where
       matched : (ws : List Written) → ((a : Unit {0}) → Alone a → (ms : List Piece) → Matched true ms ws → (x' : DeclKind) × IsCase d ms x' × SameKind x x') →
-          (ms : List Piece) → Matched false ms (sign [] t.Case ∷ ws) → (p : Place) × (x' : DeclKind) × Case_kinds attrs ms (one_kind p x') × SameKind x x'
+          (ms : List Piece) → Matched false ms (sign [] t.Case ∷ ws) → (p : Place) × (x' : DeclKind) × CaseKinds attrs ms (one_kind p x') × SameKind x x'
       matched ws make [] f = absurd f
       matched ws make (m ∷ ms) f =
           let (x', case', same) = make tt tt ms (all_matched true ms ws f.1) in
@@ -219,50 +219,50 @@ module _ (getter : (d n : ℕ) → Writes false false is_flush (λ b. block_text
 
   -- ---- all kinds of members
 
-  pub kinded_in : (R S : List Attr → Rule Kinds) → ((attrs : List Attr) (us : List Piece) (w : Kinds) → R attrs us w → S attrs us w) → (attrs : List Attr) (xs : List DeclKind) → All_of (Kinded R n attrs) xs → All_of (Kinded S n attrs) xs
+  pub kinded_in : (R S : List Attr → Rule Kinds) → ((attrs : List Attr) (us : List Piece) (w : Kinds) → R attrs us w → S attrs us w) → (attrs : List Attr) (xs : List DeclKind) → AllOf (Kinded R n attrs) xs → AllOf (Kinded S n attrs) xs
   kinded_in R S into attrs [] all = tt
   kinded_in R S into attrs (x ∷ xs) (one, all) =
       (record { written = one.written; text = one.text; sound = one.sound; begun = one.begun; again = λ attrs' near ms f. let (p, x', r, same) = one.again attrs' near ms f in (p, x', into attrs' ms (one_kind p x') r, same) }, kinded_in R S into attrs xs all)
 
-  abbrev Members_of : List Attr → Rule Kinds
-  Members_of attrs = Member_kind Blocks interface s d attrs
+  abbrev MembersOf : List Attr → Rule Kinds
+  MembersOf attrs = MemberKind Blocks interface s d attrs
 
-  pub member_kinded : (attrs : List Attr) (us : List Piece) (w : Kinds) → Genuine us → Members_of attrs us w → All_of (Kinded Members_of n attrs) w.1
+  pub member_kinded : (attrs : List Attr) (us : List Piece) (w : Kinds) → FromText us → MembersOf attrs us w → AllOf (Kinded MembersOf n attrs) w.1
   member_kinded attrs us w gen (inl r) =
-      kinded_in _ Members_of (λ a us w r. inl r) attrs w.1 (kinded_one _ n attrs (function_one attrs) function_one (function_told (may_stand interface s) (λ a a' near. stand_flag interface s near) attrs) us w gen r)
+      kinded_in _ MembersOf (λ a us w r. inl r) attrs w.1 (kinded_one _ n attrs (function_one attrs) function_one (function_told (may_stand interface s) (λ a a' near. stand_flag interface s near) attrs) us w gen r)
     where
-      function_one : (attrs : List Attr) → One_kind (Led (only_if (may_stand interface s attrs) (mark t.Func)) (Rest_of_function Blocks interface s d attrs))
+      function_one : (attrs : List Attr) → OneKind (TokenThen (only_if (may_stand interface s attrs) (mark t.Func)) (FunctionTail Blocks interface s d attrs))
       function_one attrs = one_led (λ c. one_led (λ i. one_then (λ h. one_then (λ b. one_only c (k.Function i h b)))))
   member_kinded attrs us w gen (inr (inl r)) =
-      kinded_in _ Members_of (λ a us w r. inr (inl r)) attrs w.1 (kinded_one _ n attrs (init_one attrs) init_one (initialiser_told (not (is_protocol s)) attrs) us w gen r)
+      kinded_in _ MembersOf (λ a us w r. inr (inl r)) attrs w.1 (kinded_one _ n attrs (init_one attrs) init_one (initialiser_told (not (is_protocol s)) attrs) us w gen r)
     where
-      init_one : (attrs : List Attr) → One_kind (Led (only_if (not (is_protocol s)) (mark t.Init)) (Rest_of_initialiser Blocks interface s d attrs))
+      init_one : (attrs : List Attr) → OneKind (TokenThen (only_if (not (is_protocol s)) (mark t.Init)) (InitialiserTail Blocks interface s d attrs))
       init_one attrs = one_led (λ c. one_then (λ h. one_then (λ b. one_only c (k.Initialiser h b))))
   member_kinded attrs us w gen (inr (inr (inl r))) =
-      kinded_in _ Members_of (λ a us w r. inr (inr (inl r))) attrs w.1 (kinded_one _ n attrs (var_one attrs) var_one (var_told (may_stand interface s) (λ a a' near. stand_flag interface s near) attrs) us w gen r)
+      kinded_in _ MembersOf (λ a us w r. inr (inr (inl r))) attrs w.1 (kinded_one _ n attrs (var_one attrs) var_one (var_told (may_stand interface s) (λ a a' near. stand_flag interface s near) attrs) us w gen r)
     where
-      var_one : (attrs : List Attr) → One_kind (Led (only_if (may_stand interface s attrs) (mark t.Var)) (Rest_of_var Blocks interface s d attrs))
+      var_one : (attrs : List Attr) → OneKind (TokenThen (only_if (may_stand interface s attrs) (mark t.Var)) (VarTail Blocks interface s d attrs))
       var_one attrs = one_led (λ c. one_led (λ i. one_led (λ c'. one_then (λ ty. one_then (λ x. one_only c (k.Property introducer.Var i ty x))))))
   member_kinded attrs us w gen (inr (inr (inr (inl r)))) =
-      kinded_in _ Members_of (λ a us w r. inr (inr (inr (inl r)))) attrs w.1 (kinded_one _ n attrs (let_one attrs) let_one (let_told (may_be_stored interface s) (λ a a' near. stored_flag interface s near) attrs) us w gen r)
+      kinded_in _ MembersOf (λ a us w r. inr (inr (inr (inl r)))) attrs w.1 (kinded_one _ n attrs (let_one attrs) let_one (let_told (may_be_stored interface s) (λ a a' near. stored_flag interface s near) attrs) us w gen r)
     where
-      let_one : (attrs : List Attr) → One_kind (Led (only_if (may_be_stored interface s attrs) (mark t.Let)) Rest_of_let)
+      let_one : (attrs : List Attr) → OneKind (TokenThen (only_if (may_be_stored interface s attrs) (mark t.Let)) LetTail)
       let_one attrs = one_led (λ c. one_led (λ i. one_led (λ c'. one_then (λ ty. one_only c (k.Property introducer.Let i ty accessors.Stored)))))
   member_kinded attrs us w gen (inr (inr (inr (inr (inl r))))) =
-      kinded_in _ Members_of (λ a us w r. inr (inr (inr (inr (inl r))))) attrs w.1 (kinded_one _ n attrs (alias_one attrs) alias_one (alias_told (not (is_protocol s)) attrs) us w gen r)
+      kinded_in _ MembersOf (λ a us w r. inr (inr (inr (inr (inl r))))) attrs w.1 (kinded_one _ n attrs (alias_one attrs) alias_one (alias_told (not (is_protocol s)) attrs) us w gen r)
     where
-      alias_one : (attrs : List Attr) → One_kind (Led (only_if (not (is_protocol s)) (mark t.Typealias)) Rest_of_alias)
+      alias_one : (attrs : List Attr) → OneKind (TokenThen (only_if (not (is_protocol s)) (mark t.Typealias)) AliasTail)
       alias_one attrs = one_led (λ c. one_led (λ i. one_led (λ c'. one_then (λ ty. one_only c (k.TypeAlias i ty)))))
   member_kinded attrs us w gen (inr (inr (inr (inr (inr (inl r)))))) =
-      kinded_in _ Members_of (λ a us w r. inr (inr (inr (inr (inr (inl r)))))) attrs w.1 (kinded_one _ n attrs (associated_one attrs) associated_one (associated_told (is_protocol s) attrs) us w gen r)
+      kinded_in _ MembersOf (λ a us w r. inr (inr (inr (inr (inr (inl r)))))) attrs w.1 (kinded_one _ n attrs (associated_one attrs) associated_one (associated_told (is_protocol s) attrs) us w gen r)
     where
-      associated_one : (attrs : List Attr) → One_kind (Led (only_if (is_protocol s) (mark t.Associatedtype)) Rest_of_associated)
+      associated_one : (attrs : List Attr) → OneKind (TokenThen (only_if (is_protocol s) (mark t.Associatedtype)) AssociatedTail)
       associated_one attrs = one_led (λ c. one_led (λ i. one_then (λ ts. one_then (λ ty. one_only c (k.AssociatedType i ts ty)))))
   member_kinded attrs us w gen (inr (inr (inr (inr (inr (inr (inl (u, c, vs, at, takes, (cases, xs, ys, cut, listed, (none, is)))))))))) =
-      let gen' : Genuine (u ∷ vs) = subst Genuine at gen in
-      subst (λ (z : Kinds). All_of (Kinded Members_of n attrs) z.1) (sym is)
-      (kinded_in Case_kinds Members_of (λ a us w r. inr (inr (inr (inr (inr (inr (inl r))))))) attrs cases
-      (separated_all t.Comma (IsCase d) (Kinded Case_kinds n attrs) (λ us x g case. case_kinded (may (is_enum s) refl takes) attrs us x g case) xs cases (genuine_left xs ys (subst Genuine cut gen'.2)) listed))
+      let gen' : FromText (u ∷ vs) = subst FromText at gen in
+      subst (λ (z : Kinds). AllOf (Kinded MembersOf n attrs) z.1) (sym is)
+      (kinded_in CaseKinds MembersOf (λ a us w r. inr (inr (inr (inr (inr (inr (inl r))))))) attrs cases
+      (separated_all t.Comma (IsCase d) (Kinded CaseKinds n attrs) (λ us x g case. case_kinded (may (is_enum s) refl takes) attrs us x g case) xs cases (genuine_left xs ys (subst FromText cut gen'.2)) listed))
     where
       may : (b : Bool) → is_enum s ≡ b → only_if (is_enum s) (mark t.Case) u ≡ Some c → is_enum s ≡ true
       may true e takes = e

@@ -18,13 +18,13 @@ use Rattle.evo_tree.specs.Declarations.{has_modifier, is_ranked, ordered_modifie
 use Rattle.evo_tree.specs.Bare.{bare_modifier}
 use Rattle.evo_tree.specs.Canonical.{modifier_text}
 use Rattle.evo_round_trip.proofs.Written.{Written, Sound, joined}
-use Rattle.evo_round_trip.proofs.Matching.{Genuine}
+use Rattle.evo_round_trip.proofs.Matching.{FromText}
 use Rattle.evo_round_trip.proofs.Printed.{any, begins, is_free, Matched, leads_free}
 use Rattle.evo_round_trip.proofs.Prints.{Taken, Alone, Writes, print_only, print_led}
 use Rattle.evo_parse_expr.proofs.Tests.{when_some}
 use Rattle.evo_round_trip.proofs.Tokens.{spelling, has_spelling, spelled_is, spelled_is_token}
 use Rattle.evo_round_trip.proofs.Spellings.{sign}
-use Rattle.evo_round_trip.proofs.Takens.{like_of}
+use Rattle.evo_round_trip.proofs.TakenTokens.{like_of}
 use Rattle.evo_round_trip.proofs.Heads.{is_calm}
 use Rattle.evo_round_trip.proofs.PrintedTypes.{SameBy}
 use Rattle.evo_round_trip.proofs.OrderedKinds.{is_short, none_is, AtMostOne, MayFollow, one_nil, any_filter, among}
@@ -184,7 +184,7 @@ again_same b p mods ws mods' known same = (λ p'. pick b p' known.access, has_ba
         ap (λ z. map bare_modifier (cond z (ordered_modifiers mods') (internal p' ∷ ordered_modifiers mods'))) has ∙ plain
 
 -- modifiers are written in their order before `ys`, and read again
-pub modifiers_front : (us : List Piece) (mods : List Modifier) → Genuine us → Modifiers us mods → (b : Bool) (p : Place) → (ys : List Written) → begins false is_calm ys ≡ true → Sound ys →
+pub modifiers_front : (us : List Piece) (mods : List Modifier) → FromText us → Modifiers us mods → (b : Bool) (p : Place) → (ys : List Written) → begins false is_calm ys ≡ true → Sound ys →
     (zs : List Written) × (joined zs ≡ flat_map (λ m. modifier_text m.kind) (with_access b p (ordered_modifiers mods)) ++ joined ys) × Sound zs × (begins false is_calm zs ≡ true)
     × ((ms : List Piece) → Matched false ms zs → (ns : List Piece) × (ps : List Piece) × (mods' : List Modifier) × (ms ≡ ns ++ ps) × Modifiers ns mods'
     × ((p' : Place) → map bare_modifier (with_access b p' (ordered_modifiers mods')) ≡ map bare_modifier (with_access b p (ordered_modifiers mods))) × (has_modifier modifier.Override mods' ≡ has_modifier modifier.Override mods) × Matched false ps ys)

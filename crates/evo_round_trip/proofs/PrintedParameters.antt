@@ -2,7 +2,7 @@
 use Rattle.std.proofs.Common.{◌≡◌, ℕ, List, [], ◌++◌, true, false, codes, Some, refl, sym, ◌∙◌, ap, ap₂, subst, inl, inr, append_assoc, append-nil}
 use Rattle.std.specs.Prelude.{not}
 use Rattle.evo_base.specs.declared.place.Place.{Place}
-use Rattle.evo_combinators.specs.Rule.{Only, Led, Then}
+use Rattle.evo_combinators.specs.Rule.{Empty, TokenThen, Then}
 use Rattle.evo_tree.specs.declared.name.Identifier.{Identifier}
 use Rattle.evo_tree.specs.declared.name.TypeName.{TypeName}
 use Rattle.evo_tree.specs.declared.declaration.GenericParameter.{GenericParameter}
@@ -13,17 +13,17 @@ use Rattle.evo_tree.specs.declared.scope.Scope.{Scope}
 use Rattle.evo_tree.specs.declared.terminal.Terminal.TheVariants as t
 use Rattle.evo_tree.specs.Pieces.{Piece, mark, identifier, is_terminal}
 use Rattle.evo_tree.specs.Types.{type_head, plain_name, IsType}
-use Rattle.evo_tree.specs.Declarations.{Separated, is_protocol, Protocols, Conforming, Generic, parameter, Rest_of_parameter, IsParameter, Parameters, Generics}
+use Rattle.evo_tree.specs.Declarations.{Separated, is_protocol, Protocols, Conforming, Generic, parameter, ParameterTail, IsParameter, Parameters, Generics}
 use Rattle.evo_tree.specs.Bare.{origin, bare_identifier, bare_type, bare_generic, bare_parameter_label, bare_parameter}
 use Rattle.evo_tree.specs.Canonical.{listed, unless_empty, type_text, typed, constraint_text, generic_text, parameter_text}
 use Rattle.evo_round_trip.proofs.Printed.{Text, any, is_apart, is_free, leads_free}
 use Rattle.evo_round_trip.proofs.Prints.{Prints, Writes, print_only, print_nothing, print_or, print_led, print_nested, print_then, print_after, print_firm}
 use Rattle.evo_parse_expr.proofs.Tests.{when_some, and_both, number_is, identifier_number, plain_name_number}
 use Rattle.evo_round_trip.proofs.Spellings.{sign, named}
-use Rattle.evo_round_trip.proofs.Takens.{taken_mark, taken_name}
+use Rattle.evo_round_trip.proofs.TakenTokens.{taken_mark, taken_name}
 use Rattle.evo_round_trip.proofs.TakenTypes.{taken_if}
 use Rattle.evo_round_trip.proofs.Heads.{is_calm, calm_flush, or_left, apart_free, leads_apart, leads_calm}
-use Rattle.evo_round_trip.proofs.Snug.{is_snug, is_worded, is_marked, worded_calm, leads_worded, Ends, Keeps, is_head_piece, then_ends, then_keeps, only_keeps, led_ends, name_ends, many_keeps, separated_ends, print_snug}
+use Rattle.evo_round_trip.proofs.Adjacent.{is_snug, is_worded, is_marked, worded_calm, leads_worded, Ends, Keeps, is_head_piece, then_ends, then_keeps, only_keeps, led_ends, name_ends, many_keeps, separated_ends, print_snug}
 use Rattle.evo_round_trip.proofs.PrintedTypes.{SameBy, SameAllBy, print_of, some_separated, separated_prints, type_behind, conforming_prints}
 
 -- ---- generics
@@ -45,7 +45,7 @@ generic_ends = name_ends identifier _ name (λ n. then_keeps Conforming _ confor
     name : (u : Piece) (n : Identifier) → identifier u ≡ Some n → is_head_piece u ≡ true
     name u n takes = or_left (is_terminal t.Identifier u) (is_terminal t.SelfType u) (number_is t.Identifier u (identifier_number u n takes))
 
-    colon : Ends (Led (mark t.Colon) (λ _. Protocols))
+    colon : Ends (TokenThen (mark t.Colon) (λ _. Protocols))
     colon = led_ends (mark t.Colon) (λ _. Protocols) (λ c. separated_ends t.And IsType type_ends)
 
     conforming : Keeps Conforming
@@ -72,7 +72,7 @@ generics_print s = print_or
     many : Writes false false is_worded (listed generic_text) (SameAllBy bare_generic) (Separated t.Comma Generic) (Separated t.Comma Generic)
     many = separated_prints bare_generic Generic t.Comma [] refl refl refl (λ w h. calm_flush w (worded_calm w h)) generic_prints
 
-    leaf : (us : List Piece) (gs : List GenericParameter) → Then (Separated t.Comma Generic) (λ gs. Led (mark t.Greater) (λ _. Only gs)) us gs → (z : Text) → z ≡ listed generic_text gs ++ codes ">" → codes "<" ++ z ≡ generics_text gs
+    leaf : (us : List Piece) (gs : List GenericParameter) → Then (Separated t.Comma Generic) (λ gs. TokenThen (mark t.Greater) (λ _. Empty gs)) us gs → (z : Text) → z ≡ listed generic_text gs ++ codes ">" → codes "<" ++ z ≡ generics_text gs
     leaf us gs (xs, vs, ws, at, s, (u, c, ys, cut, takes, only)) z h =
         let (y, ys, is) = some_separated t.Comma Generic vs xs s in
         ap (λ v. codes "<" ++ v) h ∙ subst (λ v. codes "<" ++ (listed generic_text v ++ codes ">") ≡ generics_text v) (sym (only.1 ∙ is)) refl
@@ -82,7 +82,7 @@ generics_print s = print_or
 -- ":" type
 rest_prints : {A : Type 0} {before : Text → Text} {Near : A → Type 0} (p : Place) (l : ParameterLabel) (n : Identifier) (p' : A → Place) (l' : A → ParameterLabel) (n' : A → Identifier) →
     ((a : A) → Near a → (bare_parameter_label l ≡ bare_parameter_label (l' a)) × (bare_identifier n ≡ bare_identifier (n' a))) → ((x : TypeName) → before (typed x) ≡ parameter_text (parameter p l n x)) →
-    Prints true any false is_free before parameter_text Near (SameBy bare_parameter) (Rest_of_parameter p l n) (λ a. Rest_of_parameter (p' a) (l' a) (n' a))
+    Prints true any false is_free before parameter_text Near (SameBy bare_parameter) (ParameterTail p l n) (λ a. ParameterTail (p' a) (l' a) (n' a))
 rest_prints {before} p l n p' l' n' same leaf = print_led {e' = false} {q = is_apart} (taken_mark t.Colon [] refl refl (λ u g i. refl)) (λ c ws b. leads_apart _ (sign [] t.Colon) ws refl b)
     (λ c. print_then {q = is_apart} (print_firm type_behind) (λ w i. i) apart_free
     (λ x. print_only (ap (λ z. before (codes ": " ++ z)) (append-nil (type_text x)) ∙ leaf x)

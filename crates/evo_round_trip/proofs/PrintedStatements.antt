@@ -5,9 +5,9 @@ use Rattle.std.specs.List.{flat_map}
 use Rattle.std.specs.Option.{option_map}
 use Rattle.evo_base.specs.declared.place.Place.{Place}
 use Rattle.evo_base.specs.declared.token.TokenKind.TheVariants as kind
-use Rattle.evo_combinators.specs.Rule.{Only, Nothing, Led, Then}
+use Rattle.evo_combinators.specs.Rule.{Empty, Fail, TokenThen, Then}
 use Rattle.evo_combinators.specs.Guard.{On, Run}
-use Rattle.evo_round_trip.proofs.Alike.{All_like}
+use Rattle.evo_round_trip.proofs.Alike.{AllLike}
 use Rattle.evo_tree.specs.declared.name.Identifier.{Identifier}
 use Rattle.evo_tree.specs.declared.name.TypeName.{TypeName}
 use Rattle.evo_tree.specs.declared.expression.Expr.{Expr, Expr-F, out-Expr, map-Expr, out-roll-Expr}
@@ -26,7 +26,7 @@ use Rattle.evo_tree.specs.declared.terminal.Terminal.TheVariants as t
 use Rattle.evo_tree.specs.Terminals.{terminal_of}
 use Rattle.evo_tree.specs.Pieces.{Piece, mark, is_terminal, has_role, role_number, placed}
 use Rattle.evo_tree.specs.Expressions.{Rule, IsExpr, Unary}
-use Rattle.evo_tree.specs.Statements.{introduced, introduces, assigning, assigns, is_here, is_positive_level, is_target_level, is_target, assigns_to, has_none, is_last_branch, Annotation, Rest_of_local, Rest_of_discard, Behind_else, else_at, Rest_of_if, Rest_of_while, Value, Rest_of_return, Rest_of_switch, Rest_of_init, Action, Action_of, Stmt_of, IsCall, IsStmt, Block_of, IsBlock}
+use Rattle.evo_tree.specs.Statements.{introduced, introduces, assigning, assigns, is_here, is_positive_level, is_target_level, is_target, assigns_to, has_none, is_last_branch, Annotation, LocalTail, DiscardTail, BehindElse, else_at, IfTail, WhileTail, Value, ReturnTail, SwitchTail, InitTail, Action, ActionOf, StmtOf, IsCall, IsStmt, BlockOf, IsBlock}
 use Rattle.evo_tree.specs.Bare.{clear_expr, bare_type, bare_expr, bare_branch}
 use Rattle.evo_tree.specs.Canonical.{Text, introducer_text, assignment_text, optional, typed, expr_text, call_arguments, block_text}
 use Rattle.evo_print.specs.Texts.{words_of, branch}
@@ -36,7 +36,7 @@ use Rattle.evo_round_trip.proofs.Prints.{Prints, Writes, Alone, Taken, print_onl
 use Rattle.evo_round_trip.proofs.Tokens.{spelled_is, spelled_is_token, has_spelling}
 use Rattle.evo_round_trip.proofs.Spellings.{sign, named}
 use Rattle.evo_round_trip.proofs.TokensOfTerminals.{spelling, kind_for}
-use Rattle.evo_round_trip.proofs.Takens.{like_of, taken_mark, taken_name, SameName}
+use Rattle.evo_round_trip.proofs.TakenTokens.{like_of, taken_mark, taken_name, SameName}
 use Rattle.evo_round_trip.proofs.Heads.{is_head, is_calm, is_start, head_flush, apart_free, leads_apart, leads_dot, leads_infix, or_right, Begun, any_head}
 use Rattle.evo_round_trip.proofs.ExpressionTrees.{SameExpr, like_map, bare_is}
 use Rattle.evo_round_trip.proofs.PrintedExpressions.{Expressed, expressed_behind}
@@ -198,7 +198,7 @@ module _ (inits : Bool) (d : ℕ) (E : Rule Expr) (A : Rule (List Arg)) (S : Rul
   valued : Writes true false is_apart (λ y. codes " " ++ expr_text y) SameExpr E E
   valued = print_firm (expressed_behind E law)
 
-  blocked : Writes true false is_apart (λ b. codes " " ++ block_text b n) SameBlock (Block_of d S) (Block_of d S)
+  blocked : Writes true false is_apart (λ b. codes " " ++ block_text b n) SameBlock (BlockOf d S) (BlockOf d S)
   blocked = print_firm (print_behind (codes " ") refl refl (block_prints d S inner n))
 
   module _ (g : Piece → Bool) (p : Written → Bool) (begun : Begun g p) where
@@ -222,7 +222,7 @@ module _ (inits : Bool) (d : ℕ) (E : Rule Expr) (A : Rule (List Arg)) (S : Rul
     local_like c c' i i' ty ty' y y' kinds names types values =
         subst (λ k. SameStmt (s.Local c.0 c.1 i ty y) (s.Local c'.0 k i' ty' y')) kinds (local_same c.0 c'.0 c.1 i i' ty ty' y y' names types values)
 
-    local_prints : Said (Led introduces (Rest_of_local inits d E A S))
+    local_prints : Said (TokenThen introduces (LocalTail inits d E A S))
     local_prints = print_led {e' = false} {q = is_apart} (taken_introduces (λ u i passes is. introducer_start i u passes is)) (λ c ws b. leads_apart _ (sign [] (introducer_terminal c.1)) ws refl b)
         (λ c. print_led {e' = false} {q = is_free} (taken_name (codes " ") refl (λ u w g i same. refl)) (λ i ws b. leads_free _ (named (codes " ") i.text) ws refl b)
         (λ i. print_after {q = is_free} annotation_prints (λ w i. i) (λ w i. i) (λ w i. i)
@@ -234,13 +234,13 @@ module _ (inits : Bool) (d : ℕ) (E : Rule Expr) (A : Rule (List Arg)) (S : Rul
         introducer_start introducer.Let u passes is = starts_as t.Let refl refl u passes is
         introducer_start introducer.Var u passes is = starts_as t.Var refl refl u passes is
 
-    discard_prints : Said (Led (mark t.Underscore) (Rest_of_discard inits d E A S))
+    discard_prints : Said (TokenThen (mark t.Underscore) (DiscardTail inits d E A S))
     discard_prints = print_led {e' = false} {q = is_apart} (taken_mark t.Underscore [] refl refl (starts_as t.Underscore refl refl)) (λ c ws b. leads_apart _ (sign [] t.Underscore) ws refl b)
         (λ c. print_led {e' = false} {q = is_apart} (taken_mark t.Equal (codes " ") refl refl (λ u g i. refl)) (λ c' ws b. leads_apart _ (sign (codes " ") t.Equal) ws refl b)
         (λ c'. print_then {q = is_free} {e' = true} valued (λ w i. i) (λ w i. i)
         (λ y. print_only {p = is_free} (simp append-nil (sym (discard_words c y n))) (λ a near. discard_same c a.0.0.1 y a.1 near.1))))
 
-    word_prints : (k : Terminal) → has_spelling k ≡ true → is_start (kind_for k) ≡ true → (x : Place → Stmt) → ((c : Place) → spelling k ++ [] ≡ words_of (x c) n) → ((c c' : Place) → SameStmt (x c) (x c')) → Said (Led (mark k) (λ c. Only (x c)))
+    word_prints : (k : Terminal) → has_spelling k ≡ true → is_start (kind_for k) ≡ true → (x : Place → Stmt) → ((c : Place) → spelling k ++ [] ≡ words_of (x c) n) → ((c c' : Place) → SameStmt (x c) (x c')) → Said (TokenThen (mark k) (λ c. Empty (x c)))
     word_prints k has start x written same = print_led {e' = true} {q = is_free} (taken_mark k [] has refl (starts_as k has start)) (λ c ws b. leads_free _ (sign [] k) ws refl b) (λ c. print_only (written c) (λ a near. same c a.1))
 
     value_prints : Writes true true is_apart (optional (λ y. codes " " ++ expr_text y)) (λ x y. option_map bare_expr x ≡ option_map bare_expr y) (Value inits d E A S) (Value inits d E A S)
@@ -252,12 +252,12 @@ module _ (inits : Bool) (d : ℕ) (E : Rule Expr) (A : Rule (List Arg)) (S : Rul
         here : Prints {A = Unit {0}} true any false is_apart (λ z. z) (λ y. codes " " ++ expr_text y) Alone SameExpr (On is_here E) (λ a. On is_here E)
         here = print_on (codes " ") refl refl (λ m is. ap not is) (print_by (λ us b s. s.4) (λ a us b s. s) (print_more (λ h. h) head_flush (law any is_head any_head)))
 
-    return_prints : Said (Led (mark t.Return) (Rest_of_return inits d E A S))
+    return_prints : Said (TokenThen (mark t.Return) (ReturnTail inits d E A S))
     return_prints = print_led {e' = true} {q = is_apart} (taken_mark t.Return [] refl refl (starts_as t.Return refl refl)) (λ c ws b. leads_apart _ (sign [] t.Return) ws refl b)
         (λ c. print_after {q = is_apart} value_prints (λ w i. i) apart_free (λ w i. i)
         (λ y. print_only (ap (λ z. codes "return" ++ z) (append-nil (optional (λ y. codes " " ++ expr_text y) y)) ∙ sym (return_words c y n)) (λ a near. return_same c a.0.1 y a.1 near.1)))
 
-    while_prints : Said (Led (mark t.While) (Rest_of_while inits d E A S))
+    while_prints : Said (TokenThen (mark t.While) (WhileTail inits d E A S))
     while_prints = print_led {e' = false} {q = is_apart} (taken_mark t.While [] refl refl (starts_as t.While refl refl)) (λ c ws b. leads_apart _ (sign [] t.While) ws refl b)
         (λ c. print_then {q = is_apart} {e' = false} valued (λ w i. i) apart_free
         (λ y. print_then {q = is_free} {e' = true} blocked (λ w i. i) (λ w i. i)
@@ -278,7 +278,7 @@ module _ (inits : Bool) (d : ℕ) (E : Rule Expr) (A : Rule (List Arg)) (S : Rul
         (print_only (append-nil (expr_text y) ∙ sym (expr_words y n)) (λ a near. expr_same y a.1 near.1)))
 
     init_prints : (k : Terminal) → has_spelling k ≡ true → is_start (kind_for k) ≡ true → (x : Place → List Arg → Stmt) → ((c : Place) (xs : List Arg) → spelling k ++ (codes ".init" ++ (call_arguments xs ++ [])) ≡ words_of (x c xs) n) →
-        ((c c' : Place) (xs ys : List Arg) → SameArguments xs ys → SameStmt (x c xs) (x c' ys)) → Said (Led (mark k) (λ c. Rest_of_init inits d E A S (x c)))
+        ((c c' : Place) (xs ys : List Arg) → SameArguments xs ys → SameStmt (x c xs) (x c' ys)) → Said (TokenThen (mark k) (λ c. InitTail inits d E A S (x c)))
     init_prints k has start x written same = print_led {e' = false} {q = is_free} (taken_mark k [] has refl (starts_as k has start)) (λ c ws b. leads_free _ (sign [] k) ws refl b)
         (λ c. print_led {e' = false} {q = is_calm} (taken_mark t.Dot [] refl refl (λ u g i. refl)) (λ c' ws b. leads_dot _ ws b)
         (λ c'. print_led {e' = false} {q = is_free} (taken_mark t.Init [] refl refl (λ u g i. refl)) (λ c'' ws b. leads_free _ (sign [] t.Init) ws refl b)
@@ -292,7 +292,7 @@ module _ (inits : Bool) (d : ℕ) (E : Rule Expr) (A : Rule (List Arg)) (S : Rul
     branch_like : (y z : Expr) (b c : Block) → SameExpr y z → SameBlock b c → SameBranch (Some y, b) (Some z, c)
     branch_like y z b c e f = branch_same (Some y) (Some z) b c (ap (λ v. Some v) e) f
 
-    else_prints : Writes true false is_apart (λ b. codes " else " ++ branch n b) SameBranch (Led (mark t.Else) (λ _. Behind_else inits d E A S)) (Led (mark t.Else) (λ _. Behind_else inits d E A S))
+    else_prints : Writes true false is_apart (λ b. codes " else " ++ branch n b) SameBranch (TokenThen (mark t.Else) (λ _. BehindElse inits d E A S)) (TokenThen (mark t.Else) (λ _. BehindElse inits d E A S))
     else_prints = print_led {e' = false} {q = is_apart} (taken_mark t.Else (codes " ") refl refl (λ u g i. refl)) (λ c ws b. leads_apart _ (sign (codes " ") t.Else) ws refl b)
         (λ c. print_or
         (print_led {e' = false} {q = is_apart} (taken_mark t.If (codes " ") refl refl (λ u g i. refl)) (λ c' ws b. leads_apart _ (sign (codes " ") t.If) ws refl b)
@@ -305,7 +305,7 @@ module _ (inits : Bool) (d : ℕ) (E : Rule Expr) (A : Rule (List Arg)) (S : Rul
     abbrev elses : List Part → Text
     elses bs = flat_map (λ b. codes " else " ++ branch n b) bs
 
-    elses_print : Writes true true is_apart elses (All_like SameBranch) (Run (else_at inits d E A S) is_last_branch false) (Run (else_at inits d E A S) is_last_branch false)
+    elses_print : Writes true true is_apart elses (AllLike SameBranch) (Run (else_at inits d E A S) is_last_branch false) (Run (else_at inits d E A S) is_last_branch false)
     elses_print = record {
       holds = λ us xs gen fst r.
           let (ws, written, sound, begun', make) = (print_run {Rel = λ s s'. s ≡ s'} apart_free each follows false).holds us xs gen fst r in
@@ -330,20 +330,20 @@ module _ (inits : Bool) (d : ℕ) (E : Rule Expr) (A : Rule (List Arg)) (S : Rul
         follows s s' b b' is same = none_kept b.0 b'.0 (ap (λ (z : Part). z.0) same)
 
     -- a first branch, and what follows it
-    abbrev If_of : Place → Rule Stmt
-    If_of c = Then E (λ y. Then (Block_of d S) (λ b. Then (Run (else_at inits d E A S) is_last_branch false) (λ bs. Only (s.If c ((Some y, b) ∷ bs)))))
+    abbrev IfOf : Place → Rule Stmt
+    IfOf c = Then E (λ y. Then (BlockOf d S) (λ b. Then (Run (else_at inits d E A S) is_last_branch false) (λ bs. Empty (s.If c ((Some y, b) ∷ bs)))))
 
-    opened : (c : Place) (us : List Piece) (x : Stmt) → Rest_of_if inits d E A S c us x → If_of c us x
+    opened : (c : Place) (us : List Piece) (x : Stmt) → IfTail inits d E A S c us x → IfOf c us x
     opened c us x (k, vs, ws, cut, (y, v1, v2, cut2, e, (b, v3, v4, cut3, block, (none, is))), rest) = (
       y,
       v1,
       v3 ++ ws,
       cut ∙ ap (λ z. z ++ ws) (cut2 ∙ ap (λ z. v1 ++ z) (cut3 ∙ ap (λ z. v3 ++ z) none ∙ append-nil v3)) ∙ append_assoc v1 v3 ws,
       e,
-      (b, v3, ws, refl, block, subst (λ z. Then (Run (else_at inits d E A S) is_last_branch false) (λ bs. Only (s.If c (z ∷ bs))) ws x) is rest),
+      (b, v3, ws, refl, block, subst (λ z. Then (Run (else_at inits d E A S) is_last_branch false) (λ bs. Empty (s.If c (z ∷ bs))) ws x) is rest),
     )
 
-    closed : (c : Place) (us : List Piece) (x : Stmt) → If_of c us x → Rest_of_if inits d E A S c us x
+    closed : (c : Place) (us : List Piece) (x : Stmt) → IfOf c us x → IfTail inits d E A S c us x
     closed c us x (y, v1, v2, cut, e, (b, v3, v4, cut2, block, rest)) =
         ((Some y, b), v1 ++ v3, v4, cut ∙ ap (λ z. v1 ++ z) cut2 ∙ sym (append_assoc v1 v3 v4), (y, v1, v3, refl, e, (b, v3, [], sym (append-nil v3), block, (refl, refl))), rest)
 
@@ -353,7 +353,7 @@ module _ (inits : Bool) (d : ℕ) (E : Rule Expr) (A : Rule (List Arg)) (S : Rul
         first : (z : Text) → codes "if" ++ ((codes " " ++ expr_text y) ++ ((codes " " ++ block_text b n) ++ z)) ≡ branch n (Some y, b) ++ z
         first z = simp append_assoc
 
-    if_prints : Said (Led (mark t.If) (Rest_of_if inits d E A S))
+    if_prints : Said (TokenThen (mark t.If) (IfTail inits d E A S))
     if_prints = print_led {e' = false} {q = is_apart} (taken_mark t.If [] refl refl (starts_as t.If refl refl)) (λ c ws b. leads_apart _ (sign [] t.If) ws refl b)
         (λ c. print_by (opened c) (λ a us x i. closed a.1 us x i)
         (print_then {q = is_apart} {e' = false} valued (λ w i. i) apart_free
@@ -366,34 +366,34 @@ module _ (inits : Bool) (d : ℕ) (E : Rule Expr) (A : Rule (List Arg)) (S : Rul
     switch_leaf c y cs = ap (λ z. codes "switch" ++ ((codes " " ++ expr_text y) ++ z)) (append-nil (codes " " ++ braces_text n cs) ∙ ap (λ z. codes " " ++ z) (braces_is n cs))
         ∙ sym (switch_words c y cs n ∙ simp append_assoc)
 
-    switch_prints : Said (Led (mark t.Switch) (Rest_of_switch inits d E A S))
+    switch_prints : Said (TokenThen (mark t.Switch) (SwitchTail inits d E A S))
     switch_prints = print_led {e' = false} {q = is_apart} (taken_mark t.Switch [] refl refl (starts_as t.Switch refl refl)) (λ c ws b. leads_apart _ (sign [] t.Switch) ws refl b)
         (λ c. print_then {q = is_apart} {e' = false} valued (λ w i. i) apart_free
         (λ y. print_then {q = is_free} {e' = true} (print_firm (print_behind (codes " ") refl refl (clauses_print S inner d n))) (λ w i. i) (λ w i. i)
         (λ cs. print_only {p = is_free} (switch_leaf c y cs) (λ a near. switch_same c a.0.0.1 y a.0.1 cs a.1 near.0.1 near.1))))
 
-    action_of_prints : (b : Bool) → Said (Action_of inits d E A S b)
+    action_of_prints : (b : Bool) → Said (ActionOf inits d E A S b)
     action_of_prints false = action_prints
     action_of_prints true = print_or (init_prints t.SelfValue refl refl (λ c xs. s.SelfInit c xs) (λ c xs. ap (λ z. codes "self.init" ++ z) (append-nil (call_arguments xs)) ∙ sym (self_init_words c xs n)) (λ c c' xs ys same. self_init_same c c' xs ys same))
         (print_or (init_prints t.Super refl refl (λ c xs. s.SuperInit c xs) (λ c xs. ap (λ z. codes "super.init" ++ z) (append-nil (call_arguments xs)) ∙ sym (super_init_words c xs n)) (λ c c' xs ys same. super_init_same c c' xs ys same)) action_prints)
 
-    stmt_prints : Said (Stmt_of inits d E A S)
+    stmt_prints : Said (StmtOf inits d E A S)
     stmt_prints = print_or local_prints (print_or discard_prints (print_or if_prints (print_or while_prints (print_or return_prints
         (print_or (word_prints t.Break refl refl (λ c. s.Break c) (λ c. sym (break_words c n)) (λ c c'. break_same c c'))
         (print_or (word_prints t.Continue refl refl (λ c. s.Continue c) (λ c. sym (continue_words c n)) (λ c c'. continue_same c c'))
         (print_or switch_prints (action_of_prints inits))))))))
 
 call_is : (d : ℕ) → Writes true false is_free call_arguments SameArguments (IsCall d) (IsCall d)
-call_is zero = call_prints zero Nothing Nothing nothing_expressed
+call_is zero = call_prints zero Fail Fail nothing_expressed
 call_is (suc d) = call_prints (suc d) (IsExpr d) (Unary d) (expressed d)
 
 -- a statement is written
 pub stated : (inits : Bool) (d : ℕ) → Stated (IsStmt inits d)
 unfolding IsStmt
-stated inits zero n g p begun = stmt_prints inits zero (IsExpr zero) (IsCall zero) Nothing (expressed zero) (call_is zero) (λ n g p begun. print_nothing) n g p begun
+stated inits zero n g p begun = stmt_prints inits zero (IsExpr zero) (IsCall zero) Fail (expressed zero) (call_is zero) (λ n g p begun. print_nothing) n g p begun
 stated inits (suc d) n g p begun = stmt_prints inits (suc d) (IsExpr (suc d)) (IsCall (suc d)) (IsStmt inits d) (expressed (suc d)) (call_is (suc d)) (stated inits d) n g p begun
 
 -- a block is written
 pub blocks_print : (inits : Bool) (d n : ℕ) → Writes false false is_flush (λ b. block_text b n) SameBlock (IsBlock inits d) (IsBlock inits d)
-blocks_print inits zero n = block_prints zero Nothing (λ n g p begun. print_nothing) n
+blocks_print inits zero n = block_prints zero Fail (λ n g p begun. print_nothing) n
 blocks_print inits (suc d) n = block_prints (suc d) (IsStmt inits d) (stated inits d) n

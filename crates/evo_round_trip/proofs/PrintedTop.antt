@@ -4,7 +4,7 @@ use Rattle.std.specs.Prelude.{if◌then◌else◌}
 use Rattle.std.specs.List.{flat_map}
 use Rattle.evo_base.specs.declared.place.Place.{Place}
 use Rattle.evo_lex.specs.Front.{when}
-use Rattle.evo_combinators.specs.Rule.{Only, Led, Then}
+use Rattle.evo_combinators.specs.Rule.{Empty, TokenThen, Then}
 use Rattle.evo_tree.specs.declared.name.Identifier.{Identifier}
 use Rattle.evo_tree.specs.declared.name.TypeName.{TypeName}
 use Rattle.evo_tree.specs.declared.declaration.Attr.{Attr}
@@ -22,18 +22,18 @@ use Rattle.evo_tree.specs.Terminals.{number_of, terminal_of}
 use Rattle.evo_tree.specs.Pieces.{Piece, mark}
 use Rattle.evo_tree.specs.Expressions.{Rule}
 use Rattle.evo_tree.specs.Statements.{IsBlock}
-use Rattle.evo_tree.specs.Declarations.{Within, Unless, begins_accessors, scope_of, nominal_word, Lines, Declaration_of, Member_kind, AreMembers, Members, Rest_of_function, Rest_of_nominal, Rest_of_extension, Top_kind, IsDeclaration}
+use Rattle.evo_tree.specs.Declarations.{Within, Unless, begins_accessors, scope_of, nominal_word, Lines, DeclarationOf, MemberKind, AreMembers, Members, FunctionTail, NominalTail, ExtensionTail, TopKind, IsDeclaration}
 use Rattle.evo_tree.specs.Bare.{bare_decl}
 use Rattle.evo_tree.specs.Canonical.{Text, indent, block_text, type_text, inherited_text, nominal_text, decl_text}
 use Rattle.evo_print.specs.Texts.{kind_text}
 use Rattle.evo_round_trip.proofs.Written.{Written, joined, Sound, IsToken}
-use Rattle.evo_round_trip.proofs.Matching.{Genuine}
+use Rattle.evo_round_trip.proofs.Matching.{FromText}
 use Rattle.evo_round_trip.proofs.Printed.{any, begins, is_apart, is_flush, is_free, leads_free, Matched, matched_parts, genuine_left, joined_append, sound_append, begins_within, begins_after}
 use Rattle.evo_round_trip.proofs.Prints.{Prints, Writes, Taken, print_only, print_nothing, print_or, print_led, print_nested, print_then, print_after, print_after_told, print_firm, print_more}
 use Rattle.evo_parse_expr.proofs.Tests.{number_is}
 use Rattle.evo_round_trip.proofs.Tokens.{spelling, kind_for, spelled_is, spelled_is_token}
 use Rattle.evo_round_trip.proofs.Spellings.{sign, named}
-use Rattle.evo_round_trip.proofs.Takens.{like_of, taken_mark, taken_name, SameName}
+use Rattle.evo_round_trip.proofs.TakenTokens.{like_of, taken_mark, taken_name, SameName}
 use Rattle.evo_round_trip.proofs.Heads.{is_calm, apart_free, leads_apart}
 use Rattle.evo_round_trip.proofs.ExpressionTrees.{like_map}
 use Rattle.evo_round_trip.proofs.PrintedTypes.{SameTypes, type_behind, inherited_prints}
@@ -41,41 +41,41 @@ use Rattle.evo_round_trip.proofs.StatementTrees.{SameBlock}
 use Rattle.evo_round_trip.proofs.DeclarationTrees.{SameKind, members_text, nominal_is, extension_is, nominal_same, extension_same}
 use Rattle.evo_round_trip.proofs.PrintedBlocks.{feed, indent_gap}
 use Rattle.evo_round_trip.proofs.PrintedAccessors.{Blocks}
-use Rattle.evo_round_trip.proofs.PrintedKinds.{Kinds, kinds_text, SameKinds, Attributed, One_kind, one_only, one_led, one_then, Kinded, All_of, kinded_one}
+use Rattle.evo_round_trip.proofs.PrintedKinds.{Kinds, kinds_text, SameKinds, Attributed, OneKind, one_only, one_led, one_then, Kinded, AllOf, kinded_one}
 use Rattle.evo_round_trip.proofs.PrintedMembers.{function_told, member_kinded, kinded_in}
-use Rattle.evo_round_trip.proofs.PrintedDeclarations.{Attributes_front, Modifiers_front, Each, group_each, Below_each, lines_each, each_line}
+use Rattle.evo_round_trip.proofs.PrintedDeclarations.{AttributesFront, ModifiersFront, Each, group_each, BelowEach, lines_each, each_line}
 
-abbrev pub Getter_prints : Type 0
-Getter_prints = (d n : ℕ) → Writes false false is_flush (λ b. block_text b n) SameBlock (Unless begins_accessors (IsBlock false d)) (Unless begins_accessors (IsBlock false d))
+abbrev pub GetterPrints : Type 0
+GetterPrints = (d n : ℕ) → Writes false false is_flush (λ b. block_text b n) SameBlock (Unless begins_accessors (IsBlock false d)) (Unless begins_accessors (IsBlock false d))
 
 abbrev pub SameDecls : List Decl → List Decl → Type 0
 SameDecls xs ys = map bare_decl xs ≡ map bare_decl ys
 
-module _ (getter : Getter_prints) (attributes : Attributes_front) (modifiers : Modifiers_front) (interface : Bool) where
+module _ (getter : GetterPrints) (attributes : AttributesFront) (modifiers : ModifiersFront) (interface : Bool) where
   -- ---- members
 
-  abbrev Member_group : Scope → ℕ → Rule (List Decl)
-  Member_group s d = Declaration_of s d (Member_kind Blocks interface s d)
+  abbrev MemberGroup : Scope → ℕ → Rule (List Decl)
+  MemberGroup s d = DeclarationOf s d (MemberKind Blocks interface s d)
 
-  members_below : (s : Scope) (d n : ℕ) (us : List Piece) (xs : List Decl) → Genuine us → AreMembers Blocks interface s d us xs → Below_each (Member_group s d) n xs (Lines (Member_group s d))
+  members_below : (s : Scope) (d n : ℕ) (us : List Piece) (xs : List Decl) → FromText us → AreMembers Blocks interface s d us xs → BelowEach (MemberGroup s d) n xs (Lines (MemberGroup s d))
   members_below s d n us xs gen (gs, vs, ws, cut, lines, (none, is)) =
-      subst (λ z. Below_each (Member_group s d) n z (Lines (Member_group s d))) (sym is)
-      (lines_each (Member_group s d) n (flat_map (λ g. g) gs)
-      (each_line (Member_group s d) n (group_each attributes modifiers s d n (Member_kind Blocks interface s d) (member_kinded getter interface s d n)) vs gs (genuine_left vs ws (subst Genuine cut gen)) lines))
+      subst (λ z. BelowEach (MemberGroup s d) n z (Lines (MemberGroup s d))) (sym is)
+      (lines_each (MemberGroup s d) n (flat_map (λ g. g) gs)
+      (each_line (MemberGroup s d) n (group_each attributes modifiers s d n (MemberKind Blocks interface s d) (member_kinded getter interface s d n)) vs gs (genuine_left vs ws (subst FromText cut gen)) lines))
 
   -- what stands behind the brace of a type
-  abbrev Rest_of_members : Scope → ℕ → Rule (List Decl)
-  Rest_of_members s d = Then (Within (AreMembers Blocks interface s) d) (λ ms. Led (mark t.CloseBrace) (λ _. Only ms))
+  abbrev MembersTail : Scope → ℕ → Rule (List Decl)
+  MembersTail s d = Then (Within (AreMembers Blocks interface s) d) (λ ms. TokenThen (mark t.CloseBrace) (λ _. Empty ms))
 
-  abbrev Rest_written : Scope → ℕ → ℕ → List Piece → List Decl → Type 0
-  Rest_written s d n us xs = (ws : List Written) × (codes " {" ++ joined ws ≡ codes " " ++ members_text xs n) × Sound ws × (begins false is_apart ws ≡ true)
-      × ((a : Place) → Unit {0} → (ms : List Piece) → Matched true ms ws → (xs' : List Decl) × Rest_of_members s d ms xs' × SameDecls xs xs')
+  abbrev RestWritten : Scope → ℕ → ℕ → List Piece → List Decl → Type 0
+  RestWritten s d n us xs = (ws : List Written) × (codes " {" ++ joined ws ≡ codes " " ++ members_text xs n) × Sound ws × (begins false is_apart ws ≡ true)
+      × ((a : Place) → Unit {0} → (ms : List Piece) → Matched true ms ws → (xs' : List Decl) × MembersTail s d ms xs' × SameDecls xs xs')
 
-  rest_written : (s : Scope) (d n : ℕ) (us : List Piece) (xs : List Decl) → Genuine us → Rest_of_members s d us xs → Rest_written s d n us xs
+  rest_written : (s : Scope) (d n : ℕ) (us : List Piece) (xs : List Decl) → FromText us → MembersTail s d us xs → RestWritten s d n us xs
   unfolding mark
   rest_written s zero n us xs gen (ys, vs, ws, cut, inner, r) = absurd inner
   rest_written s (suc d) n us xs gen (ys, vs, rest, cut, inner, (u, c, v2, at, takes, (none, is))) =
-      let lines = members_below s d (n + 1) vs xs (genuine_left vs rest (subst Genuine cut gen)) (subst (λ z. AreMembers Blocks interface s d vs z) (sym is) inner) in (
+      let lines = members_below s d (n + 1) vs xs (genuine_left vs rest (subst FromText cut gen)) (subst (λ z. AreMembers Blocks interface s d vs z) (sym is) inner) in (
         lines.written ++ close ∷ [],
         ap (λ z. codes " {" ++ z) (joined_append lines.written (close ∷ [])) ∙ text (joined lines.written) (flat_map (λ x. decl_text x (n + 1)) xs) lines.text,
         sound_append lines.written (close ∷ []) lines.sound (spelled_is_token t.CloseBrace refl (feed n) (indent_gap n) role.Unattached, refl, tt) refl,
@@ -176,7 +176,7 @@ module _ (getter : Getter_prints) (attributes : Attributes_front) (modifiers : M
     nominal_like : (m m' : NominalKind) (i i' : Identifier) (ts ts' : List TypeName) (ms ms' : List Decl) → m ≡ m' → SameName i i' → SameTypes ts ts' → SameDecls ms ms' → SameKind (k.Nominal m i ts ms) (k.Nominal m' i' ts' ms')
     nominal_like m m' i i' ts ts' ms ms' is names types members = subst (λ z. SameKind (k.Nominal m i ts ms) (k.Nominal z i' ts' ms')) is (nominal_same m i i' ts ts' ms ms' names types members)
 
-    nominal_told : (attrs : List Attr) → Prints false any false is_calm (λ z. z) (kinds_text n) (Attributed attrs) SameKinds (Led nominal_word (Rest_of_nominal Blocks interface d attrs)) (λ attrs'. Led nominal_word (Rest_of_nominal Blocks interface d attrs'))
+    nominal_told : (attrs : List Attr) → Prints false any false is_calm (λ z. z) (kinds_text n) (Attributed attrs) SameKinds (TokenThen nominal_word (NominalTail Blocks interface d attrs)) (λ attrs'. TokenThen nominal_word (NominalTail Blocks interface d attrs'))
     nominal_told attrs = print_led {e' = false} {q = is_apart} taken_nominal (λ c ws b. leads_apart _ (sign [] (nominal_terminal c.1)) ws refl b)
         (λ c. print_led {e' = true} {q = is_free} (taken_name (codes " ") refl (λ u w g i same. refl)) (λ i ws b. leads_free _ (named (codes " ") i.text) ws refl b)
         (λ i. print_after {q = is_free} inherited_prints (λ w i. i) (λ w i. i) (λ w i. i)
@@ -190,7 +190,7 @@ module _ (getter : Getter_prints) (attributes : Attributes_front) (modifiers : M
         turn : (u v w : Text) → codes "extension" ++ ((codes " " ++ u) ++ (v ++ ((codes " " ++ w) ++ []))) ≡ codes "extension " ++ u ++ v ++ codes " " ++ w
         turn u v w = simp (append_assoc, append-nil)
 
-    extension_told : (attrs : List Attr) → Prints false any false is_calm (λ z. z) (kinds_text n) (Attributed attrs) SameKinds (Led (mark t.Extension) (Rest_of_extension Blocks interface d)) (λ attrs'. Led (mark t.Extension) (Rest_of_extension Blocks interface d))
+    extension_told : (attrs : List Attr) → Prints false any false is_calm (λ z. z) (kinds_text n) (Attributed attrs) SameKinds (TokenThen (mark t.Extension) (ExtensionTail Blocks interface d)) (λ attrs'. TokenThen (mark t.Extension) (ExtensionTail Blocks interface d))
     extension_told attrs = print_led {e' = false} {q = is_apart} (taken_mark t.Extension [] refl refl (λ u g i. refl)) (λ c ws b. leads_apart _ (sign [] t.Extension) ws refl b)
         (λ c. print_then {q = is_free} {e' = true} (print_firm type_behind) (λ w i. i) (λ w i. i)
         (λ ty. print_after {q = is_free} inherited_prints (λ w i. i) (λ w i. i) (λ w i. i)
@@ -198,28 +198,28 @@ module _ (getter : Getter_prints) (attributes : Attributes_front) (modifiers : M
         (λ ms. print_only (extension_leaf ty ts ms) (λ a near. (extension_same ty a.0.0.1 ts a.0.1 ms a.1 near.0.0.1 near.0.1 near.1, tt)))
         apart_free))))
 
-    abbrev Top_of : List Attr → Rule Kinds
-    Top_of attrs = Top_kind Blocks interface d attrs
+    abbrev TopOf : List Attr → Rule Kinds
+    TopOf attrs = TopKind Blocks interface d attrs
 
-    top_kinded : (attrs : List Attr) (us : List Piece) (w : Kinds) → Genuine us → Top_of attrs us w → All_of (Kinded Top_of n attrs) w.1
+    top_kinded : (attrs : List Attr) (us : List Piece) (w : Kinds) → FromText us → TopOf attrs us w → AllOf (Kinded TopOf n attrs) w.1
     top_kinded attrs us w gen (inl r) =
-        kinded_in getter interface scope.TopLevel d n _ Top_of (λ a us w r. inl r) attrs w.1 (kinded_one (λ attrs. Led (mark t.Func) (Rest_of_function Blocks interface scope.TopLevel d attrs)) n attrs (function_one attrs) function_one
+        kinded_in getter interface scope.TopLevel d n _ TopOf (λ a us w r. inl r) attrs w.1 (kinded_one (λ attrs. TokenThen (mark t.Func) (FunctionTail Blocks interface scope.TopLevel d attrs)) n attrs (function_one attrs) function_one
         (function_told getter interface scope.TopLevel d n (λ a. true) (λ a a' near. refl) attrs) us w gen r)
       where
-        function_one : (attrs : List Attr) → One_kind (Led (mark t.Func) (Rest_of_function Blocks interface scope.TopLevel d attrs))
+        function_one : (attrs : List Attr) → OneKind (TokenThen (mark t.Func) (FunctionTail Blocks interface scope.TopLevel d attrs))
         function_one attrs = one_led (λ c. one_led (λ i. one_then (λ h. one_then (λ b. one_only c (k.Function i h b)))))
     top_kinded attrs us w gen (inr (inl r)) =
-        kinded_in getter interface scope.TopLevel d n _ Top_of (λ a us w r. inr (inl r)) attrs w.1 (kinded_one (λ attrs. Led nominal_word (Rest_of_nominal Blocks interface d attrs)) n attrs (nominal_one attrs) nominal_one (nominal_told attrs) us w gen r)
+        kinded_in getter interface scope.TopLevel d n _ TopOf (λ a us w r. inr (inl r)) attrs w.1 (kinded_one (λ attrs. TokenThen nominal_word (NominalTail Blocks interface d attrs)) n attrs (nominal_one attrs) nominal_one (nominal_told attrs) us w gen r)
       where
-        nominal_one : (attrs : List Attr) → One_kind (Led nominal_word (Rest_of_nominal Blocks interface d attrs))
+        nominal_one : (attrs : List Attr) → OneKind (TokenThen nominal_word (NominalTail Blocks interface d attrs))
         nominal_one attrs = one_led (λ c. one_led (λ i. one_then (λ ts. one_then (λ ms. one_only c.0 (k.Nominal c.1 i ts ms)))))
     top_kinded attrs us w gen (inr (inr (inl r))) =
-        kinded_in getter interface scope.TopLevel d n _ Top_of (λ a us w r. inr (inr (inl r))) attrs w.1 (kinded_one (λ attrs. Led (mark t.Extension) (Rest_of_extension Blocks interface d)) n attrs (extension_one attrs) extension_one (extension_told attrs) us w gen r)
+        kinded_in getter interface scope.TopLevel d n _ TopOf (λ a us w r. inr (inr (inl r))) attrs w.1 (kinded_one (λ attrs. TokenThen (mark t.Extension) (ExtensionTail Blocks interface d)) n attrs (extension_one attrs) extension_one (extension_told attrs) us w gen r)
       where
-        extension_one : (attrs : List Attr) → One_kind (Led (mark t.Extension) (Rest_of_extension Blocks interface d))
+        extension_one : (attrs : List Attr) → OneKind (TokenThen (mark t.Extension) (ExtensionTail Blocks interface d))
         extension_one attrs = one_led (λ c. one_then (λ ty. one_then (λ ts. one_then (λ ms. one_only c (k.Extension ty ts ms)))))
     top_kinded attrs us w gen (inr (inr (inr r))) = absurd r
 
     -- each declaration that one at the top level makes
-    pub declaration_each : (us : List Piece) (ds : List Decl) → Genuine us → IsDeclaration Blocks interface d us ds → All_of (Each (IsDeclaration Blocks interface d) n) ds
-    declaration_each = group_each attributes modifiers scope.TopLevel d n Top_of top_kinded
+    pub declaration_each : (us : List Piece) (ds : List Decl) → FromText us → IsDeclaration Blocks interface d us ds → AllOf (Each (IsDeclaration Blocks interface d) n) ds
+    declaration_each = group_each attributes modifiers scope.TopLevel d n TopOf top_kinded

@@ -1,8 +1,8 @@
 -- Types are written, alone and in lists: types with `&`, types with commas, and behind `:`.
 use Rattle.std.proofs.Common.{◌≡◌, ℕ, List, [], ◌∷◌, ◌++◌, map, Bool, true, false, codes, refl, sym, ◌∙◌, ap, ap₂, subst, append_assoc, append-nil}
 use Rattle.std.specs.List.{flat_map, join_by}
-use Rattle.evo_combinators.specs.Rule.{Only, One, Led, Or}
-use Rattle.evo_round_trip.proofs.Alike.{All_like}
+use Rattle.evo_combinators.specs.Rule.{Empty, One, TokenThen, Or}
+use Rattle.evo_round_trip.proofs.Alike.{AllLike}
 use Rattle.evo_tree.specs.declared.name.TypeName.{TypeName}
 use Rattle.evo_tree.specs.declared.terminal.Terminal.{Terminal}
 use Rattle.evo_tree.specs.declared.terminal.Terminal.TheVariants as t
@@ -18,7 +18,7 @@ use Rattle.evo_round_trip.proofs.Printed.{Text, is_apart, is_flush, is_free, lea
 use Rattle.evo_round_trip.proofs.Prints.{Prints, Writes, print_alone, print_in, print_only, print_or, print_led, print_then, print_after, print_many, print_behind, print_firm, print_more}
 use Rattle.evo_round_trip.proofs.Spellings.{sign, named}
 use Rattle.evo_round_trip.proofs.Tokens.{spelling, has_spelling}
-use Rattle.evo_round_trip.proofs.Takens.{taken_mark}
+use Rattle.evo_round_trip.proofs.TakenTokens.{taken_mark}
 use Rattle.evo_round_trip.proofs.TakenTypes.{head_word, taken_type_head, taken_plain_name}
 use Rattle.evo_round_trip.proofs.Heads.{is_calm, calm_flush, leads_apart, leads_dot}
 use Rattle.evo_round_trip.proofs.ExpressionTrees.{like_map}
@@ -36,13 +36,13 @@ SameType a b = bare_type a ≡ bare_type b
 abbrev SameText : Text → Text → Type 0
 SameText a b = a ≡ b
 
-all_same : (xs ys : List Text) → All_like SameText xs ys → xs ≡ ys
+all_same : (xs ys : List Text) → AllLike SameText xs ys → xs ≡ ys
 all_same [] [] h = refl
 all_same [] (y ∷ ys) h = absurd h
 all_same (x ∷ xs) [] h = absurd h
 all_same (x ∷ xs) (y ∷ ys) h = ap₂ (λ z w. z ∷ w) h.0 (all_same xs ys h.1)
 
-part_prints : Writes true false is_free (λ n. codes "." ++ n) SameText (Led (mark t.Dot) (λ _. One plain_name)) (Led (mark t.Dot) (λ _. One plain_name))
+part_prints : Writes true false is_free (λ n. codes "." ++ n) SameText (TokenThen (mark t.Dot) (λ _. One plain_name)) (TokenThen (mark t.Dot) (λ _. One plain_name))
 part_prints = print_led {e' = false} {q = is_calm} (taken_mark t.Dot [] refl refl (λ u g i. refl)) (λ c ws b. leads_dot _ ws b)
     (λ c. print_led {e' = true} {q = is_free} (taken_plain_name [] refl (λ text. refl)) (λ n ws b. leads_free _ (named [] n) ws refl b)
     (λ n. print_only (ap (λ z. codes "." ++ z) (append-nil n)) (λ a near. near.1)))
@@ -88,7 +88,7 @@ module _ {B : Type 0} {p : Written → Bool} {out : B → Text} (bare : B → B)
       (λ x. print_after {q = is_free} (print_many {out = λ b. mark_text gap k ++ out b} (λ w i. i) further) (λ w i. i) (λ w i. i) (λ w i. i)
       (λ xs. print_only (ap (λ z. out x ++ z) (append-nil (flat_map (λ b. mark_text gap k ++ out b) xs))) (λ a near. ap₂ (λ v w. v ∷ w) near.0.1 (like_map bare xs a.1 near.1))))
     where
-      further : Writes true false is_free (λ b. mark_text gap k ++ out b) (SameBy bare) (Led (mark k) (λ _. S)) (Led (mark k) (λ _. S))
+      further : Writes true false is_free (λ b. mark_text gap k ++ out b) (SameBy bare) (TokenThen (mark k) (λ _. S)) (TokenThen (mark k) (λ _. S))
       further = print_led {e' = false} {q = is_apart} (taken_mark k gap has blank (λ u g i. free)) (λ c ws b. leads_apart _ (sign gap k) ws refl b)
           (λ c. print_in (λ b z h. further_leaf gap (spelling k) (out b) z h) (print_firm (print_behind (codes " ") refl refl (print_more (λ h. h) flush law))))
 
@@ -103,7 +103,7 @@ types_print = separated_prints bare_type IsType t.Comma [] refl refl refl calm_f
 -- a list behind a colon and a blank, where it has items
 pub behind_colon : {B : Type 0} {p : Written → Bool} {out : List B → Text} (bare : B → B) (S : Rule B) (k : Terminal) → ((w : Written) → p w ≡ true → is_flush w ≡ true) →
     Writes false false p out (SameAllBy bare) (Separated k S) (Separated k S) →
-    Writes true true is_free (unless_empty (codes ": ") out []) (SameAllBy bare) (Or (Led (mark t.Colon) (λ _. Separated k S)) (Only [])) (Or (Led (mark t.Colon) (λ _. Separated k S)) (Only []))
+    Writes true true is_free (unless_empty (codes ": ") out []) (SameAllBy bare) (Or (TokenThen (mark t.Colon) (λ _. Separated k S)) (Empty [])) (Or (TokenThen (mark t.Colon) (λ _. Separated k S)) (Empty []))
 behind_colon {B} {p} {out} bare S k flush law = print_or
     (print_led {e' = false} {q = is_apart} (taken_mark t.Colon [] refl refl (λ u g i. refl)) (λ c ws b. leads_apart _ (sign [] t.Colon) ws refl b)
     (λ c. print_of leaf (print_alone (print_firm (print_behind (codes " ") refl refl (print_more (λ h. h) flush law))))))

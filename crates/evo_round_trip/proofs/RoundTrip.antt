@@ -7,8 +7,8 @@ use Rattle.std.specs.Str.{IsUtf8, chars, encode_utf8_all}
 use Rattle.std.proofs.lemmas.Str.{chars-append, encodes-chars, IsUtf8-append}
 use Rattle.std.proofs.lemmas.Bool.Decides.{Decides-eqb}
 use Rattle.evo_combinators.specs.Guard.{Run}
-use Rattle.evo_round_trip.proofs.Alike.{All_like}
-use Rattle.evo_lex.specs.Cut.{CutFrom, origin, beyond}
+use Rattle.evo_round_trip.proofs.Alike.{AllLike}
+use Rattle.evo_lex.specs.Tokenization.{CutFrom, origin, beyond}
 use Rattle.evo_lex.specs.Identifier.{IsIdentifier}
 use Rattle.evo_lex.proofs.Identifiers.{identifier_lacks}
 use Rattle.evo_lex.proofs.Spots.{bytes}
@@ -22,12 +22,12 @@ use Rattle.evo_tree.specs.declared.module.ModulePart.TheVariants as part
 use Rattle.evo_tree.specs.declared.module.ModuleTree.{ModuleTree}
 use Rattle.evo_tree.specs.declared.module.PartSpot.TheVariants as spot
 use Rattle.evo_tree.specs.Pieces.{Piece, pieces, pieces_from}
-use Rattle.evo_tree.specs.Modules.{imports_of, items_of, after_part, Part_of, Part_at, Parts, IsHeading, IsNamed, nesting, Spells}
+use Rattle.evo_tree.specs.Modules.{imports_of, items_of, after_part, PartOf, PartAt, Parts, IsHeading, IsNamed, nesting, Spells}
 use Rattle.evo_tree.specs.Bare.{Same}
 use Rattle.evo_tree.specs.Canonical.{Text, import_text, item_text, head_text, canonical_text}
 use Rattle.evo_round_trip.specs.RoundTrip.{IsReadAgain, CanonicalTextIsReadAgain}
 use Rattle.evo_round_trip.proofs.Written.{Written, joined, is_gap, breaks, Sound}
-use Rattle.evo_round_trip.proofs.Matching.{Genuine, Alike}
+use Rattle.evo_round_trip.proofs.Matching.{FromText, Alike}
 use Rattle.evo_round_trip.proofs.Printed.{Matched}
 use Rattle.evo_round_trip.proofs.GenuinePieces.{genuine}
 use Rattle.evo_round_trip.proofs.WrittenTexts.{utf8_joined}
@@ -35,9 +35,9 @@ use Rattle.evo_round_trip.proofs.WrittenCuts.{written_is_cut}
 use Rattle.evo_round_trip.proofs.HeadingLines.{heading_is_white, head_utf8}
 use Rattle.evo_round_trip.proofs.SameTexts.{same_text}
 use Rattle.evo_round_trip.proofs.PrintedAccessors.{Blocks}
-use Rattle.evo_round_trip.proofs.PrintedKinds.{All_of}
+use Rattle.evo_round_trip.proofs.PrintedKinds.{AllOf}
 use Rattle.evo_round_trip.proofs.PrintedParts.{Says, SamePart, part_text, alone, PartEach, parts_each}
-use Rattle.evo_round_trip.proofs.PrintedModules.{In_order, Further, whole, parts_of, in_order, each_of, parts_text, imports_like}
+use Rattle.evo_round_trip.proofs.PrintedModules.{InOrder, Further, whole, parts_of, in_order, each_of, parts_text, imports_like}
 
 matched : (ms : List Piece) (ws : List Written) → Alike ms ws → Matched false ms ws
 matched [] [] a = tt
@@ -62,8 +62,8 @@ leading_is (part.Import n) (part.Items ys) same = absurd same
 leading_is (part.Items xs) (part.Import m) same = absurd same
 leading_is (part.Items xs) (part.Items ys) same = refl
 
-abbrev From_start : Form → List Piece → List ModulePart → Type 0
-From_start f ms xs = Run (Part_at Blocks Says f nesting) after_part spot.Leading ms xs
+abbrev FromStart : Form → List Piece → List ModulePart → Type 0
+FromStart f ms xs = Run (PartAt Blocks Says f nesting) after_part spot.Leading ms xs
 
 -- the body of a module by its parts
 record Start (f : Form) (parts : List ModulePart) : Type 0 where
@@ -72,7 +72,7 @@ record Start (f : Form) (parts : List ModulePart) : Type 0 where
   text : joined written ++ tail ≡ flat_map part_text parts
   blank : is_gap tail ≡ true
   sound : Sound written
-  again : (ms : List Piece) → Matched false ms written → (xs : List ModulePart) × From_start f ms xs × All_like SamePart parts xs
+  again : (ms : List Piece) → Matched false ms written → (xs : List ModulePart) × FromStart f ms xs × AllLike SamePart parts xs
 
 no_parts : (f : Form) → Start f []
 no_parts f = record { written = []; tail = []; text = refl; blank = refl; sound = tt; again = λ ms fits. ([], none ms fits, tt) }
@@ -81,7 +81,7 @@ no_parts f = record { written = []; tail = []; text = refl; blank = refl; sound 
     none [] fits = refl
     none (m ∷ ms) fits = absurd fits
 
-some_parts : (f : Form) (x : ModulePart) (xs : List ModulePart) → All_of (PartEach f nesting) (x ∷ xs) → In_order (leads x) xs → Start f (x ∷ xs)
+some_parts : (f : Form) (x : ModulePart) (xs : List ModulePart) → AllOf (PartEach f nesting) (x ∷ xs) → InOrder (leads x) xs → Start f (x ∷ xs)
 some_parts f x xs all o =
     let w = whole f nesting x xs (leads x) all.0 all.1 o in
     record {
@@ -92,10 +92,10 @@ some_parts f x xs all o =
       sound = w.sound;
       again = λ ms fits.
           let (xs', (x', rest, ns, ps, is, cut, same, part, run), sames) = w.again ms fits in
-          (xs', subst (From_start f ms) (sym is) (ns, ps, cut, part, subst (λ s. Run (Part_at Blocks Says f nesting) after_part s ps rest) (sym (leading_is x x' same)) run), sames);
+          (xs', subst (FromStart f ms) (sym is) (ns, ps, cut, part, subst (λ s. Run (PartAt Blocks Says f nesting) after_part s ps rest) (sym (leading_is x x' same)) run), sames);
     }
 
-start : (f : Form) (ns : List Identifier) (is : List Item) → All_of (PartEach f nesting) (parts_of ns is) → Start f (parts_of ns is)
+start : (f : Form) (ns : List Identifier) (is : List Item) → AllOf (PartEach f nesting) (parts_of ns is) → Start f (parts_of ns is)
 unfolding leads
 start f [] [] all = no_parts f
 start f [] (i ∷ is) all = some_parts f (alone i) (map alone is) all (in_order [] (i ∷ is))
@@ -105,35 +105,35 @@ start f (n ∷ ns) is all = some_parts f (part.Import n) (parts_of ns is) all (i
 
 only_items : (us : List Piece) (xs : List ModulePart) → Further form.Interface nesting false us xs → imports_of xs ≡ []
 only_items us [] run = refl
-only_items us (x ∷ xs) (vs, ws, cut, one, run) = further x one (only_items ws xs (subst (λ s. Run (Part_at Blocks Says form.Interface nesting) after_part s ws xs) (settled x) run))
+only_items us (x ∷ xs) (vs, ws, cut, one, run) = further x one (only_items ws xs (subst (λ s. Run (PartAt Blocks Says form.Interface nesting) after_part s ws xs) (settled x) run))
   where
     settled : (x : ModulePart) → after_part (spot.Further false) x ≡ spot.Further false
     settled (part.Import n) = refl
     settled (part.Items is) = refl
 
-    no_import : (us : List Piece) (n : Identifier) → Part_of Blocks Says form.Interface nesting false us (part.Import n) → ⊥
+    no_import : (us : List Piece) (n : Identifier) → PartOf Blocks Says form.Interface nesting false us (part.Import n) → ⊥
     no_import us n (inl (u, c, vs, at, takes, s)) = absurd (none takes)
       where
         none : None ≡ Some c → ⊥
         none e = absurd (cc)
     no_import us n (inr (is, vs, ws, cut, s, (none, same))) = absurd (cc)
 
-    further : (x : ModulePart) → Part_at Blocks Says form.Interface nesting (spot.Further false) vs x → imports_of xs ≡ [] → imports_of (x ∷ xs) ≡ []
+    further : (x : ModulePart) → PartAt Blocks Says form.Interface nesting (spot.Further false) vs x → imports_of xs ≡ [] → imports_of (x ∷ xs) ≡ []
     further (part.Items is) one none = none
     further (part.Import n) (inl (u, c, us, at, takes, s)) none = absurd (no_import us n s)
     further (part.Import n) (inr (inl (u, us, at, is, s))) none = absurd (no_import vs n s)
     further (part.Import n) (inr (inr s)) none = absurd s
 
-abbrev From_import : List Piece → List ModulePart → Type 0
-From_import ms xs = Parts Blocks Says form.Interface nesting ms xs
+abbrev FromImport : List Piece → List ModulePart → Type 0
+FromImport ms xs = Parts Blocks Says form.Interface nesting ms xs
 
-record Interface_start (n : Identifier) (is : List Item) : Type 0 where
+record InterfaceStart (n : Identifier) (is : List Item) : Type 0 where
   written : List Written
   text : joined written ++ codes "\n" ≡ flat_map part_text (parts_of (n ∷ []) is)
   sound : Sound written
-  again : (ms : List Piece) → Matched false ms written → (xs : List ModulePart) × From_import ms xs × All_like SamePart (parts_of (n ∷ []) is) xs
+  again : (ms : List Piece) → Matched false ms written → (xs : List ModulePart) × FromImport ms xs × AllLike SamePart (parts_of (n ∷ []) is) xs
 
-interface_start : (n : Identifier) (is : List Item) → All_of (PartEach form.Interface nesting) (parts_of (n ∷ []) is) → Interface_start n is
+interface_start : (n : Identifier) (is : List Item) → AllOf (PartEach form.Interface nesting) (parts_of (n ∷ []) is) → InterfaceStart n is
 interface_start n is all =
     let w = whole form.Interface nesting (part.Import n) (map alone is) false all.0 all.1 (items is) in
     record {
@@ -142,14 +142,14 @@ interface_start n is all =
       sound = w.sound;
       again = λ ms fits.
           let (xs', (x', rest, ns, ps, is', cut, same, part, run), sames) = w.again ms fits in
-          (xs', subst (From_import ms) (sym is') (first x' rest ms ns ps cut same part run), sames);
+          (xs', subst (FromImport ms) (sym is') (first x' rest ms ns ps cut same part run), sames);
     }
   where
-    items : (is : List Item) → In_order false (map alone is)
+    items : (is : List Item) → InOrder false (map alone is)
     items [] = tt
     items (i ∷ is) = items is
 
-    first : (x' : ModulePart) (rest : List ModulePart) (ms ns ps : List Piece) → ms ≡ ns ++ ps → SamePart (part.Import n) x' → Part_of Blocks Says form.Interface nesting true ns x' → Further form.Interface nesting false ps rest → From_import ms (x' ∷ rest)
+    first : (x' : ModulePart) (rest : List ModulePart) (ms ns ps : List Piece) → ms ≡ ns ++ ps → SamePart (part.Import n) x' → PartOf Blocks Says form.Interface nesting true ns x' → Further form.Interface nesting false ps rest → FromImport ms (x' ∷ rest)
     first (part.Items ys) rest ms ns ps cut same s run = absurd same
     first (part.Import m) rest ms ns ps cut same (inl s) run = (part.Import m, ns, ps, cut, s, (rest, ps, [], sym (append-nil ps), run, (refl, refl)))
     first (part.Import m) rest ms ns ps cut same (inr (js, vs, ws, cut', s, (none, e))) run = absurd (cc)
@@ -159,12 +159,12 @@ interface_start n is all =
 abbrev tree : Form → List ℕ → Option Release → List Identifier → List Item → ModuleTree
 tree f name release ns is = record { form = f; name = name; release = release; imports = ns; items = is }
 
-same_tree : (f : Form) (name : List ℕ) (release : Option Release) (ns : List Identifier) (is : List Item) (xs : List ModulePart) → All_like SamePart (parts_of ns is) xs → Same (tree f name release ns is) (tree f name release (imports_of xs) (items_of xs))
+same_tree : (f : Form) (name : List ℕ) (release : Option Release) (ns : List Identifier) (is : List Item) (xs : List ModulePart) → AllLike SamePart (parts_of ns is) xs → Same (tree f name release ns is) (tree f name release (imports_of xs) (items_of xs))
 same_tree f name release ns is xs likes = let (a, b) = imports_like ns is xs likes in ap₂ (λ v w. tree f name release v w) a b
 
 -- a source of this form, which begins with no lines of its own
-read_plain : (f : Form) (name : List ℕ) (release : Option Release) (ns : List Identifier) (is : List Item) → ((ms : List Piece) (xs : List ModulePart) → From_start f ms xs → Parts Blocks Says f nesting ms xs) →
-    (text : List ℕ) → canonical_text (tree f name release ns is) ≡ flat_map import_text ns ++ flat_map item_text is → IsNamed (canonical_text (tree f name release ns is)) f name release → All_of (PartEach f nesting) (parts_of ns is) → IsReadAgain (tree f name release ns is)
+read_plain : (f : Form) (name : List ℕ) (release : Option Release) (ns : List Identifier) (is : List Item) → ((ms : List Piece) (xs : List ModulePart) → FromStart f ms xs → Parts Blocks Says f nesting ms xs) →
+    (text : List ℕ) → canonical_text (tree f name release ns is) ≡ flat_map import_text ns ++ flat_map item_text is → IsNamed (canonical_text (tree f name release ns is)) f name release → AllOf (PartEach f nesting) (parts_of ns is) → IsReadAgain (tree f name release ns is)
 read_plain f name release ns is parts text plain named all =
     let b = start f ns is all in
     let whole : joined b.written ++ b.tail ≡ canonical_text (tree f name release ns is) = b.text ∙ parts_text ns is ∙ sym plain in
@@ -228,7 +228,7 @@ module _ (name : List ℕ) (r : Release) (ns : List Identifier) (is : List Item)
   small : {n : ℕ} → n < 2 ^ 32 → n < 2 ^ 64
   small {n} lt = let step : 2 ^ 32 < 2 ^ 64 = lit< tt in omega (arith, lt, step)
 
-  read_interface : (text : List ℕ) (n : Identifier) → ns ≡ n ∷ [] → IsHeading text name r → All_of (PartEach form.Interface nesting) (parts_of (n ∷ []) is) → IsReadAgain (tree form.Interface name (Some r) ns is)
+  read_interface : (text : List ℕ) (n : Identifier) → ns ≡ n ∷ [] → IsHeading text name r → AllOf (PartEach form.Interface nesting) (parts_of (n ∷ []) is) → IsReadAgain (tree form.Interface name (Some r) ns is)
   unfolding heading head_text
   read_interface text n one h all =
       let b = interface_start n is all in
@@ -266,7 +266,7 @@ module _ (name : List ℕ) (r : Release) (ns : List Identifier) (is : List Item)
           imports_are = refl;
           items_are = refl;
         };
-        same = same_tree form.Interface name (Some r) ns is xs (subst (λ z. All_like SamePart (parts_of z is) xs) (sym one) likes);
+        same = same_tree form.Interface name (Some r) ns is xs (subst (λ z. AllLike SamePart (parts_of z is) xs) (sym one) likes);
       }
 
 -- ---- any tree that a text spells
@@ -274,7 +274,7 @@ module _ (name : List ℕ) (r : Release) (ns : List Identifier) (is : List Item)
 whole_tree : (m : ModuleTree) (f : Form) (ns : List Identifier) (is : List Item) → m.form ≡ f → m.imports ≡ ns → m.items ≡ is → m ≡ tree f m.name m.release ns is
 whole_tree m f ns is a b c = ap (λ z. tree z m.name m.release m.imports m.items) a ∙ ap₂ (λ v w. tree f m.name m.release v w) b c
 
-read_spelled : (text : List ℕ) (f : Form) (name : List ℕ) (release : Option Release) (us : List Piece) (xs : List ModulePart) → Genuine us → Parts Blocks Says f nesting us xs → IsNamed text f name release → IsReadAgain (tree f name release (imports_of xs) (items_of xs))
+read_spelled : (text : List ℕ) (f : Form) (name : List ℕ) (release : Option Release) (us : List Piece) (xs : List ModulePart) → FromText us → Parts Blocks Says f nesting us xs → IsNamed text f name release → IsReadAgain (tree f name release (imports_of xs) (items_of xs))
 read_spelled text (form.Library n) name release us xs gen s named =
     let each = parts_each (form.Library n) nesting us xs gen s in
     read_plain (form.Library n) name release (imports_of xs) (items_of xs) (λ ms ys r. r) text refl named (each_of (form.Library n) nesting (imports_of xs) (items_of xs) each.imports each.items)
@@ -285,7 +285,7 @@ read_spelled text form.Interface name None us xs gen s named = absurd named
 read_spelled text form.Interface name (Some r) us xs gen s named =
     let each = parts_each form.Interface nesting us xs gen s in
     let (n, one) = one_import s in
-    read_interface name r (imports_of xs) (items_of xs) text n one named (subst (λ z. All_of (PartEach form.Interface nesting) (parts_of z (items_of xs))) one (each_of form.Interface nesting (imports_of xs) (items_of xs) each.imports each.items))
+    read_interface name r (imports_of xs) (items_of xs) text n one named (subst (λ z. AllOf (PartEach form.Interface nesting) (parts_of z (items_of xs))) one (each_of form.Interface nesting (imports_of xs) (items_of xs) each.imports each.items))
   where
     one_import : Parts Blocks Says form.Interface nesting us xs → (n : Identifier) × (imports_of xs ≡ n ∷ [])
     one_import (x, vs, ws, cut, (u, c, v1, at, takes, (v, n, v2, at', takes', (none, is))), (rest, v3, v4, cut2, run, (none', is'))) =

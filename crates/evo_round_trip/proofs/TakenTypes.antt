@@ -21,7 +21,7 @@ use Rattle.evo_parse_expr.proofs.Tests.{when_some, and_both, both_and, or_either
 use Rattle.evo_round_trip.proofs.Tokens.{has_spelling, spelled, spelled_is, spelled_is_token}
 use Rattle.evo_round_trip.proofs.TokensOfWords.{name_is_token}
 use Rattle.evo_round_trip.proofs.Spellings.{named}
-use Rattle.evo_round_trip.proofs.Takens.{Anyhow, SameString, like_of}
+use Rattle.evo_round_trip.proofs.TakenTokens.{Anyhow, SameString, like_of}
 use Rattle.evo_round_trip.proofs.Heads.{or_left, or_right}
 
 -- a name or `Self`
@@ -112,6 +112,6 @@ module _ {A : Type 0} {firm : Bool} {g : Piece → Bool} {p : Written → Bool} 
   taken_infix_mark k gap has blank begun = record { holds = takes_infix_mark firm g Near p k gap has blank begun }
 
   -- what is taken where it may stand
-  pub taken_if : {C : Type 0} {w : C → Written} {Like : C → C → Type 0} {f : Piece → Option C} (b : Bool) → Taken firm g p w Near Like f (λ a. f) → Taken firm g p w Near Like (only_if b f) (λ a. only_if b f)
+  pub taken_if : {C : Type 0} {w : C → Written} {SameLookahead : C → C → Type 0} {f : Piece → Option C} (b : Bool) → Taken firm g p w Near SameLookahead f (λ a. f) → Taken firm g p w Near SameLookahead (only_if b f) (λ a. only_if b f)
   taken_if true taken = record { holds = λ u c gen passes takes. taken.holds u c gen passes takes }
   taken_if false taken = record { holds = λ u c gen passes takes. absurd (cc) }

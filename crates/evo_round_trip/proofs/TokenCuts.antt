@@ -8,12 +8,12 @@ use Rattle.std.proofs.lemmas.Str.{encodes-chars}
 use Rattle.evo_base.specs.declared.place.Place.{Place}
 use Rattle.evo_base.specs.declared.token.TokenKind.{TokenKind}
 use Rattle.evo_base.specs.declared.token.Token.{Token}
-use Rattle.evo_lex.specs.declared.spot.Spot.{Spot}
+use Rattle.evo_lex.specs.declared.spot.Position.{Position}
 use Rattle.evo_lex.specs.declared.front.Front.TheVariants as front
 use Rattle.evo_lex.specs.Characters.{is_white}
 use Rattle.evo_lex.specs.Front.{front_of, white_of}
-use Rattle.evo_lex.specs.Cut.{CutFrom, after_char, behind, beyond, token_between}
-use Rattle.evo_lex.specs.Cut.CutFrom.{ended, white, token}
+use Rattle.evo_lex.specs.Tokenization.{CutFrom, after_char, behind, beyond, token_between}
+use Rattle.evo_lex.specs.Tokenization.CutFrom.{ended, white, token}
 use Rattle.evo_lex.proofs.Spots.{bytes}
 use Rattle.evo_tree.specs.Pieces.{text_of}
 use Rattle.evo_round_trip.proofs.Written.{Written, IsToken, Sound, joined, is_blank, is_gap, breaks}
@@ -29,14 +29,14 @@ unfolding front_of white_of
 blank_front c rest e = let is = blank_is (λ (d : ℕ). is_white d ≡ true) c e refl refl in rw is refl
 
 -- a cut begins with any white space before it
-pub gap_cut : (gap rest : List ℕ) (s : Spot) (tokens : List Token) → is_gap gap ≡ true → CutFrom (beyond gap s) rest tokens → CutFrom s (gap ++ rest) tokens
+pub gap_cut : (gap rest : List ℕ) (s : Position) (tokens : List Token) → is_gap gap ≡ true → CutFrom (beyond gap s) rest tokens → CutFrom s (gap ++ rest) tokens
 gap_cut [] rest s tokens e cut = cut
 gap_cut (c ∷ gap) rest s tokens e cut =
     let both = and_parts (is_blank c) (is_gap gap) e in
     white {n = 1} (blank_front c (gap ++ rest) both.0) (gap_cut gap rest (behind c s) tokens both.1 cut)
 
 -- a cut begins with a token before it
-token_cut : (k : TokenKind) (cs rest : List ℕ) (s : Spot) (tokens : List Token) → front_of (cs ++ rest) ≡ at_front (front.Token k) (length cs) → CutFrom (beyond cs s) rest tokens
+token_cut : (k : TokenKind) (cs rest : List ℕ) (s : Position) (tokens : List Token) → front_of (cs ++ rest) ≡ at_front (front.Token k) (length cs) → CutFrom (beyond cs s) rest tokens
     → CutFrom s (cs ++ rest) (token_between k s (beyond cs s) ∷ tokens)
 token_cut k cs rest s tokens e cut =
     let front = take_at cs rest (length cs) refl in
@@ -54,16 +54,16 @@ line_step : (c : ℕ) (p : Place) (b : Bool) → (c == 10) ≡ b → p.line ≤ 
 line_step c p true e = let f = at_line c p true e in omega arith
 line_step c p false e = let f = at_line c p false e in omega arith
 
-line_least : (cs : List ℕ) (s : Spot) → s.place.line ≤ (beyond cs s).place.line
+line_least : (cs : List ℕ) (s : Position) → s.place.line ≤ (beyond cs s).place.line
 line_least [] s = le_refl s.place.line
 line_least (c ∷ cs) s = le_trans (line_step c s.place (c == 10) refl) (line_least cs (behind c s))
 
 -- characters with no line feed stand on one line
-pub line_over : (cs : List ℕ) (s : Spot) → breaks cs ≡ false → (beyond cs s).place.line ≡ s.place.line
+pub line_over : (cs : List ℕ) (s : Position) → breaks cs ≡ false → (beyond cs s).place.line ≡ s.place.line
 line_over [] s e = refl
 line_over (c ∷ cs) s e = let both = or_parts (c == 10) (breaks cs) e in line_over cs (behind c s) both.1 ∙ at_line c s.place false both.0
 
-line_below : (cs : List ℕ) (s : Spot) → breaks cs ≡ true → s.place.line < (beyond cs s).place.line
+line_below : (cs : List ℕ) (s : Position) → breaks cs ≡ true → s.place.line < (beyond cs s).place.line
 line_below [] s e = absurd cc
 line_below (c ∷ cs) s e = go (c == 10) refl e (line_below cs (behind c s))
   where
@@ -72,7 +72,7 @@ line_below (c ∷ cs) s e = go (c == 10) refl e (line_below cs (behind c s))
     go false is e rest = let f = at_line c s.place false is in let g = rest e in omega arith
 
 -- what stands behind characters is on a later line exactly where a line feed is among them
-pub line_is : (cs : List ℕ) (s : Spot) → nat_lt s.place.line (beyond cs s).place.line ≡ breaks cs
+pub line_is : (cs : List ℕ) (s : Position) → nat_lt s.place.line (beyond cs s).place.line ≡ breaks cs
 line_is cs s = go (breaks cs) refl
   where
     go : (b : Bool) → breaks cs ≡ b → nat_lt s.place.line (beyond cs s).place.line ≡ breaks cs
@@ -95,11 +95,11 @@ AreCut text at line [] (w ∷ ws) = ⊥
 AreCut text at line (u ∷ us) [] = ⊥
 AreCut text at line (u ∷ us) (w ∷ ws) = IsCut text at line w u × AreCut text (u.start + u.len) u.place.line us ws
 
-module _ (pre : List ℕ) (w : Written) (ws : List Written) (tail : List ℕ) (is : IsToken w) (s : Spot) where
-  abbrev at_text : Spot
+module _ (pre : List ℕ) (w : Written) (ws : List Written) (tail : List ℕ) (is : IsToken w) (s : Position) where
+  abbrev at_text : Position
   at_text = beyond w.gap s
 
-  abbrev at_end : Spot
+  abbrev at_end : Position
   at_end = beyond (chars w.text) at_text
 
   abbrev the_token : Token
@@ -143,7 +143,7 @@ module _ (pre : List ℕ) (w : Written) (ws : List Written) (tail : List ℕ) (i
         (its_cut, subst (λ (n : ℕ). AreCut (pre ++ (joined (w ∷ ws) ++ tail)) (the_token.start + the_token.len) n us ws) line there)
 
 -- written tokens are cut as they are written
-pub tokens_cut : (ws : List Written) → Sound ws → (tail : List ℕ) → is_gap tail ≡ true → (s : Spot)
+pub tokens_cut : (ws : List Written) → Sound ws → (tail : List ℕ) → is_gap tail ≡ true → (s : Position)
     → (tokens : List Token) × CutFrom s (chars (joined ws ++ tail)) tokens × ((pre : List ℕ) → length pre ≡ s.at → AreCut (pre ++ (joined ws ++ tail)) s.at s.place.line tokens ws)
 tokens_cut [] sound tail e s =
     let cut = gap_cut tail [] s [] e ended in

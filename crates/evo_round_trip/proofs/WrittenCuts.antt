@@ -7,9 +7,9 @@ use Rattle.evo_base.specs.declared.token.TokenKind.{TokenKind}
 use Rattle.evo_base.specs.declared.token.TokenKind.TheVariants as kind
 use Rattle.evo_base.specs.declared.token.Token.{Token}
 use Rattle.evo_combinators.specs.Laws.{first}
-use Rattle.evo_lex.specs.declared.spot.Spot.{Spot}
+use Rattle.evo_lex.specs.declared.spot.Position.{Position}
 use Rattle.evo_lex.specs.Characters.{is_operator}
-use Rattle.evo_lex.specs.Cut.{CutFrom}
+use Rattle.evo_lex.specs.Tokenization.{CutFrom}
 use Rattle.evo_lex.specs.Sides.{is_opening, is_closing, is_separator, white_left, white_right}
 use Rattle.evo_tree.specs.declared.terminal.Terminal.{Terminal}
 use Rattle.evo_tree.specs.declared.terminal.Terminal.TheVariants as t
@@ -19,7 +19,7 @@ use Rattle.evo_tree.specs.Terminals.{terminal_of, operator_terminal, number_of}
 use Rattle.evo_tree.specs.Pieces.{pieces_from, text_of, prefix_role, role_of}
 use Rattle.evo_tree.specs.Pieces as pieces
 use Rattle.evo_round_trip.proofs.Written.{Written, IsToken, Sound, joined, is_gap, is_none, is_minus, is_integer_kind, parts_from, keeps_role, gives_role, leads, is_unattached}
-use Rattle.evo_round_trip.proofs.Matching.{Has, Like, All_fit, Alike}
+use Rattle.evo_round_trip.proofs.Matching.{Has, SameLookahead, AllFit, Alike}
 use Rattle.evo_round_trip.proofs.FirstCharacters.{token_at, operator_is}
 use Rattle.evo_round_trip.proofs.WrittenTexts.{nil_ends}
 use Rattle.evo_round_trip.proofs.TokenCuts.{IsCut, AreCut, tokens_cut}
@@ -206,7 +206,7 @@ module _ (whole : List ℕ) where
 
   -- a piece is like its written token
   like : (at line : ℕ) (w : Written) (ws : List Written) (before : Option Token) (u : Token) (us : List Token) → IsToken w → leads w ws ≡ true → IsCut whole at line w u → AreCut whole (u.start + u.len) u.place.line us ws
-      → Left w.role before u → Like (pieces.piece whole before u (first us)) w
+      → Left w.role before u → SameLookahead (pieces.piece whole before u (first us)) w
   like at line w ws before u us is l cut cuts left =
       let same = terminal_is at line w u cut in
       record {
@@ -216,7 +216,7 @@ module _ (whole : List ℕ) where
       }
 
   -- the pieces behind a token match the tokens that are written behind it
-  all_fit : (v : Written) (t : Token) → t.kind ≡ v.kind → (ws : List Written) → leads v ws ≡ true → Sound ws → (us : List Token) → AreCut whole (t.start + t.len) t.place.line us ws → All_fit (pieces_from whole (Some t) us) ws
+  all_fit : (v : Written) (t : Token) → t.kind ≡ v.kind → (ws : List Written) → leads v ws ≡ true → Sound ws → (us : List Token) → AreCut whole (t.start + t.len) t.place.line us ws → AllFit (pieces_from whole (Some t) us) ws
   all_fit v t k [] l sound [] cut = tt
   all_fit v t k [] l sound (u ∷ us) cut = absurd cut
   all_fit v t k (w ∷ ws) l sound [] cut = absurd cut
@@ -232,7 +232,7 @@ module _ (whole : List ℕ) where
   alike at line (w ∷ ws) sound (u ∷ us) cut = (like at line w ws None u us sound.0 sound.1 cut.0 cut.1 (no_left w.role u), all_fit w u cut.0.kind ws sound.1 sound.2 us cut.1)
 
 -- written tokens, with blanks behind them, are cut into tokens whose pieces match them
-pub written_is_cut : (ws : List Written) → Sound ws → (tail : List ℕ) → is_gap tail ≡ true → (s : Spot)
+pub written_is_cut : (ws : List Written) → Sound ws → (tail : List ℕ) → is_gap tail ≡ true → (s : Position)
     → (tokens : List Token) × CutFrom s (chars (joined ws ++ tail)) tokens × ((pre : List ℕ) → length pre ≡ s.at → Alike (pieces_from (pre ++ (joined ws ++ tail)) None tokens) ws)
 written_is_cut ws sound tail e s =
     let cut = tokens_cut ws sound tail e s in

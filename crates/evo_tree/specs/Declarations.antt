@@ -33,7 +33,7 @@ use Rattle.std.specs.Prelude.{◌≡◌, ℕ, zero, suc, ◌+◌, ◌-◌, ◌^�
 use Rattle.std.specs.List.{list_any}
 use Rattle.std.specs.Str.{bytes_eq}
 use Rattle.evo_base.specs.declared.place.Place.{Place}
-use Rattle.evo_combinators.specs.Rule.{Only, Nothing, Led, One, Or, Then, Many}
+use Rattle.evo_combinators.specs.Rule.{Empty, Fail, TokenThen, One, Or, Then, Many}
 use Rattle.evo_combinators.specs.Guard.{On, Run}
 use Rattle.evo_lex.specs.Front.{when}
 use Rattle.evo_tree.specs.declared.name.Identifier.{Identifier}
@@ -83,12 +83,12 @@ only_if false f p = None
 
 -- what stands in brackets, with one nesting less
 abbrev pub Within : {A : Type 0} → (ℕ → Rule A) → ℕ → Rule A
-Within S zero = Nothing
+Within S zero = Fail
 Within S (suc d) = S d
 
 -- one, and more behind a mark
 abbrev pub Separated : {A : Type 0} → Terminal → Rule A → Rule (List A)
-Separated k S = Then S (λ x. Then (Many (mark k) (λ _. S)) (λ xs. Only (x ∷ xs)))
+Separated k S = Then S (λ x. Then (Many (mark k) (λ _. S)) (λ xs. Empty (x ∷ xs)))
 
 -- what stands on a later line
 abbrev pub Below : {A : Type 0} → Rule A → Rule A
@@ -100,11 +100,11 @@ Unless c S us a = (c us ≡ false) × S us a
 
 -- `;` and what follows it, or what stands on a later line
 abbrev pub Next : {A : Type 0} → Rule A → Rule A
-Next S = Or (Led (mark t.Semicolon) (λ _. S)) (Or (Below S) Nothing)
+Next S = Or (TokenThen (mark t.Semicolon) (λ _. S)) (Or (Below S) Fail)
 
 -- any number, with separators between them
 abbrev pub Lines : {A : Type 0} → Rule A → Rule (List A)
-Lines S = Or (Then S (λ x. Then (Run (λ _. Next S) (λ first _. first) true) (λ xs. Only (x ∷ xs)))) (Only [])
+Lines S = Or (Then S (λ x. Then (Run (λ _. Next S) (λ first _. first) true) (λ xs. Empty (x ∷ xs)))) (Empty [])
 
 -- ---- attributes
 
@@ -154,23 +154,23 @@ introduced major minor = availability.Introduced (record { major = major; minor 
 
 -- int
 abbrev pub Number : Rule ℕ
-Number = Led (integer (2 ^ 32 - 1)) (λ v. Only v.1)
+Number = TokenThen (integer (2 ^ 32 - 1)) (λ v. Empty v.1)
 
 -- [ "." int ]
 abbrev pub Minor : Rule ℕ
-Minor = Or (Led (mark t.Dot) (λ _. Number)) (Only 0)
+Minor = Or (TokenThen (mark t.Dot) (λ _. Number)) (Empty 0)
 
 abbrev pub IsAvailability : Rule Availability
-IsAvailability = Or (Led (mark t.Star) (λ _. Led (mark t.Comma) (λ _. One standing)))
-    (Led (word (codes "macOS")) (λ _. Then Number (λ n. Then Minor (λ m. Led (mark t.Comma) (λ _. Led (mark t.Star) (λ _. Only (introduced n m)))))))
+IsAvailability = Or (TokenThen (mark t.Star) (λ _. TokenThen (mark t.Comma) (λ _. One standing)))
+    (TokenThen (word (codes "macOS")) (λ _. Then Number (λ n. Then Minor (λ m. TokenThen (mark t.Comma) (λ _. TokenThen (mark t.Star) (λ _. Empty (introduced n m)))))))
 
 -- "(" avail ")"
-abbrev pub Rest_of_available : ℕ → Place → Rule Attr
-Rest_of_available d p = Or (Nested d (mark t.OpenParenthesis) (λ _. Then IsAvailability (λ a. Led (mark t.CloseParenthesis) (λ _. Only (attribute p (attr.Available a)))))) Nothing
+abbrev pub AvailableTail : ℕ → Place → Rule Attr
+AvailableTail d p = Or (Nested d (mark t.OpenParenthesis) (λ _. Then IsAvailability (λ a. TokenThen (mark t.CloseParenthesis) (λ _. Empty (attribute p (attr.Available a)))))) Fail
 
 -- attr, behind these
 abbrev pub Attribute : ℕ → List Attr → Rule Attr
-Attribute d attrs = Led (mark t.At) (λ p. Or (Led (attribute_word attrs) (λ kind. Only (attribute p kind))) (Led (word (codes "available")) (λ _. Rest_of_available d p)))
+Attribute d attrs = TokenThen (mark t.At) (λ p. Or (TokenThen (attribute_word attrs) (λ kind. Empty (attribute p kind))) (TokenThen (word (codes "available")) (λ _. AvailableTail d p)))
 
 -- { attr }
 abbrev pub Attributes : ℕ → Rule (List Attr)
@@ -289,18 +289,18 @@ Protocols = Separated t.And IsType
 
 -- inherit
 abbrev pub Inherited : Rule (List TypeName)
-Inherited = Or (Led (mark t.Colon) (λ _. Separated t.Comma IsType)) (Only [])
+Inherited = Or (TokenThen (mark t.Colon) (λ _. Separated t.Comma IsType)) (Empty [])
 
 -- [ ":" protos ]
 abbrev pub Conforming : Rule (List TypeName)
-Conforming = Or (Led (mark t.Colon) (λ _. Protocols)) (Only [])
+Conforming = Or (TokenThen (mark t.Colon) (λ _. Protocols)) (Empty [])
 
 abbrev pub generic_parameter : Identifier → List TypeName → GenericParameter
 generic_parameter n protocols = record { name = n; protocols = protocols }
 
 -- gparam
 abbrev pub Generic : Rule GenericParameter
-Generic = Led identifier (λ n. Then Conforming (λ protocols. Only (generic_parameter n protocols)))
+Generic = TokenThen identifier (λ n. Then Conforming (λ protocols. Empty (generic_parameter n protocols)))
 
 -- takes an operator between two types
 unfoldable pub infix_mark : Terminal → Piece → Option Place
@@ -308,28 +308,28 @@ infix_mark k p = when (is_terminal k p && has_role role.Infix p) p.place
 
 -- req
 abbrev pub IsRequirement : Rule Requirement
-IsRequirement = Then IsType (λ a. Or (Led (mark t.Colon) (λ _. Then Protocols (λ protocols. Only (requirement.Conforms a protocols))))
-    (Led (infix_mark t.EqualEqual) (λ p. Then IsType (λ b. Only (requirement.Same a p b)))))
+IsRequirement = Then IsType (λ a. Or (TokenThen (mark t.Colon) (λ _. Then Protocols (λ protocols. Empty (requirement.Conforms a protocols))))
+    (TokenThen (infix_mark t.EqualEqual) (λ p. Then IsType (λ b. Empty (requirement.Same a p b)))))
 
 abbrev pub parameter : Place → ParameterLabel → Identifier → TypeName → Parameter
 parameter p l n type = record { place = p; label = l; name = n; type_name = type }
 
 -- ":" type
-abbrev pub Rest_of_parameter : Place → ParameterLabel → Identifier → Rule Parameter
-Rest_of_parameter p l n = Led (mark t.Colon) (λ _. Then IsType (λ type. Only (parameter p l n type)))
+abbrev pub ParameterTail : Place → ParameterLabel → Identifier → Rule Parameter
+ParameterTail p l n = TokenThen (mark t.Colon) (λ _. Then IsType (λ type. Empty (parameter p l n type)))
 
 -- param
 abbrev pub IsParameter : Rule Parameter
-IsParameter = Or (Led (mark t.Underscore) (λ p. Led identifier (λ n. Rest_of_parameter p label.Blank n)))
-    (Led identifier (λ m. Or (Led identifier (λ n. Rest_of_parameter m.place (label.Written m) n)) (Rest_of_parameter m.place label.Same m)))
+IsParameter = Or (TokenThen (mark t.Underscore) (λ p. TokenThen identifier (λ n. ParameterTail p label.Blank n)))
+    (TokenThen identifier (λ m. Or (TokenThen identifier (λ n. ParameterTail m.place (label.Written m) n)) (ParameterTail m.place label.Same m)))
 
 -- param { "," param } ")"
-abbrev pub Listed_parameters : Rule (List Parameter)
-Listed_parameters = Then (Separated t.Comma IsParameter) (λ ps. Led (mark t.CloseParenthesis) (λ _. Only ps))
+abbrev pub ListedParameters : Rule (List Parameter)
+ListedParameters = Then (Separated t.Comma IsParameter) (λ ps. TokenThen (mark t.CloseParenthesis) (λ _. Empty ps))
 
 -- "(" [ param { "," param } ] ")"
 abbrev pub Parameters : ℕ → Rule (List Parameter)
-Parameters d = Or (Nested d (mark t.OpenParenthesis) (λ _. Or (Led (mark t.CloseParenthesis) (λ _. Only [])) Listed_parameters)) Nothing
+Parameters d = Or (Nested d (mark t.OpenParenthesis) (λ _. Or (TokenThen (mark t.CloseParenthesis) (λ _. Empty [])) ListedParameters)) Fail
 
 abbrev pub is_void : List (List ℕ) → Bool
 is_void [] = false
@@ -342,25 +342,25 @@ result_of type = if is_void type.names then None else Some type
 
 -- result
 abbrev pub Result : ℕ → Rule (Option TypeName)
-Result d = Or (Nested d (mark t.OpenParenthesis) (λ _. Led (mark t.CloseParenthesis) (λ _. Only None))) (Then IsType (λ type. Only (result_of type)))
+Result d = Or (Nested d (mark t.OpenParenthesis) (λ _. TokenThen (mark t.CloseParenthesis) (λ _. Empty None))) (Then IsType (λ type. Empty (result_of type)))
 
 abbrev pub payload : Option Identifier → TypeName → Payload
 payload l type = record { label = l; type_name = type }
 
 -- { "." name }, behind the first name of a type
-abbrev pub Rest_of_type : Identifier → Rule TypeName
-Rest_of_type n = Then (Many (mark t.Dot) (λ _. One plain_name)) (λ names. Only (type_name (n.place, n.text) names))
+abbrev pub TypeTail : Identifier → Rule TypeName
+TypeTail n = Then (Many (mark t.Dot) (λ _. One plain_name)) (λ names. Empty (type_name (n.place, n.text) names))
 
 -- payload
 abbrev pub IsPayload : Rule Payload
-IsPayload = Or (Led identifier (λ n. Led (mark t.Colon) (λ _. Then IsType (λ type. Only (payload (Some n) type))))) (Then IsType (λ type. Only (payload None type)))
+IsPayload = Or (TokenThen identifier (λ n. TokenThen (mark t.Colon) (λ _. Then IsType (λ type. Empty (payload (Some n) type))))) (Then IsType (λ type. Empty (payload None type)))
 
 -- casedecl
-abbrev pub Rest_of_payloads : Rule (List Payload)
-Rest_of_payloads = Then (Separated t.Comma IsPayload) (λ ps. Led (mark t.CloseParenthesis) (λ _. Only ps))
+abbrev pub PayloadsTail : Rule (List Payload)
+PayloadsTail = Then (Separated t.Comma IsPayload) (λ ps. TokenThen (mark t.CloseParenthesis) (λ _. Empty ps))
 
 abbrev pub IsCase : ℕ → Rule DeclKind
-IsCase d = Led identifier (λ n. Then (Or (Nested d (mark t.OpenParenthesis) (λ _. Rest_of_payloads)) (Only [])) (λ ps. Only (k.Case n ps)))
+IsCase d = TokenThen identifier (λ n. Then (Or (Nested d (mark t.OpenParenthesis) (λ _. PayloadsTail)) (Empty [])) (λ ps. Empty (k.Case n ps)))
 
 -- ---- accessors
 
@@ -409,75 +409,75 @@ module _ (interface : Bool) (s : Scope) where
 
 -- [ "<" gparam { "," gparam } ">" ]
 abbrev pub Generics : Scope → Rule (List GenericParameter)
-Generics s = Or (Led (only_if (not (is_protocol s)) (mark t.Less)) (λ _. Then (Separated t.Comma Generic) (λ gs. Led (mark t.Greater) (λ _. Only gs)))) (Only [])
+Generics s = Or (TokenThen (only_if (not (is_protocol s)) (mark t.Less)) (λ _. Then (Separated t.Comma Generic) (λ gs. TokenThen (mark t.Greater) (λ _. Empty gs)))) (Empty [])
 
 -- [ "->" result ], where there may be one
 abbrev pub Returns : ℕ → Bool → Rule (Option TypeName)
-Returns d may = Or (Led (only_if may (mark t.Arrow)) (λ _. Result d)) (Only None)
+Returns d may = Or (TokenThen (only_if may (mark t.Arrow)) (λ _. Result d)) (Empty None)
 
 -- [ reqs ]
 abbrev pub Requirements : Scope → Rule (List Requirement)
-Requirements s = Or (Led (only_if (not (is_protocol s)) (mark t.Where)) (λ _. Separated t.Comma IsRequirement)) (Only [])
+Requirements s = Or (TokenThen (only_if (not (is_protocol s)) (mark t.Where)) (λ _. Separated t.Comma IsRequirement)) (Empty [])
 
 -- sig [ "->" result ] [ reqs ], where the flag says whether there may be a result
 abbrev pub IsHeader : Scope → ℕ → Bool → Rule Header
-IsHeader s d may = Then (Generics s) (λ gs. Then (Parameters d) (λ ps. Then (Returns d may) (λ type. Then (Requirements s) (λ rs. Only (header gs ps type rs)))))
+IsHeader s d may = Then (Generics s) (λ gs. Then (Parameters d) (λ ps. Then (Returns d may) (λ type. Then (Requirements s) (λ rs. Empty (header gs ps type rs)))))
 
 -- name ":" type
-abbrev pub Rest_of_let : Place → Rule (Place × List DeclKind)
-Rest_of_let p = Led identifier (λ n. Led (mark t.Colon) (λ _. Then IsType (λ type. Only (one_kind p (k.Property introducer.Let n type accessors.Stored)))))
+abbrev pub LetTail : Place → Rule (Place × List DeclKind)
+LetTail p = TokenThen identifier (λ n. TokenThen (mark t.Colon) (λ _. Then IsType (λ type. Empty (one_kind p (k.Property introducer.Let n type accessors.Stored)))))
 
 -- name "=" type
-abbrev pub Rest_of_alias : Place → Rule (Place × List DeclKind)
-Rest_of_alias p = Led identifier (λ n. Led (mark t.Equal) (λ _. Then IsType (λ type. Only (one_kind p (k.TypeAlias n type)))))
+abbrev pub AliasTail : Place → Rule (Place × List DeclKind)
+AliasTail p = TokenThen identifier (λ n. TokenThen (mark t.Equal) (λ _. Then IsType (λ type. Empty (one_kind p (k.TypeAlias n type)))))
 
 -- [ "=" type ]
 abbrev pub Default : Rule (Option TypeName)
-Default = Or (Led (mark t.Equal) (λ _. Then IsType (λ type. Only (Some type)))) (Only None)
+Default = Or (TokenThen (mark t.Equal) (λ _. Then IsType (λ type. Empty (Some type)))) (Empty None)
 
 -- name [ ":" protos ] [ "=" type ]
-abbrev pub Rest_of_associated : Place → Rule (Place × List DeclKind)
-Rest_of_associated p = Led identifier (λ n. Then Conforming (λ protocols. Then Default (λ type. Only (one_kind p (k.AssociatedType n protocols type)))))
+abbrev pub AssociatedTail : Place → Rule (Place × List DeclKind)
+AssociatedTail p = TokenThen identifier (λ n. Then Conforming (λ protocols. Then Default (λ type. Empty (one_kind p (k.AssociatedType n protocols type)))))
 
 -- casedecl { "," casedecl }
-abbrev pub Rest_of_cases : ℕ → Place → Rule (Place × List DeclKind)
-Rest_of_cases d p = Then (Separated t.Comma (IsCase d)) (λ cases. Only (p, cases))
+abbrev pub CasesTail : ℕ → Place → Rule (Place × List DeclKind)
+CasesTail d p = Then (Separated t.Comma (IsCase d)) (λ cases. Empty (p, cases))
 
 -- "get" [ "set" ] "}"
-abbrev pub Rest_of_gets : Rule Accessors
-Rest_of_gets = Led (word (codes "get")) (λ _. Or (Led (word (codes "set")) (λ _. Led (mark t.CloseBrace) (λ _. Only accessors.GetSet))) (Led (mark t.CloseBrace) (λ _. Only accessors.Get)))
+abbrev pub GetsTail : Rule Accessors
+GetsTail = TokenThen (word (codes "get")) (λ _. Or (TokenThen (word (codes "set")) (λ _. TokenThen (mark t.CloseBrace) (λ _. Empty accessors.GetSet))) (TokenThen (mark t.CloseBrace) (λ _. Empty accessors.Get)))
 
 abbrev pub Stored : Bool → Rule Accessors
-Stored true = Only accessors.Stored
-Stored false = Nothing
+Stored true = Empty accessors.Stored
+Stored false = Fail
 
 -- decl, with this kind; one with several cases makes several
-abbrev pub Declaration_of : Scope → ℕ → (List Attr → Rule (Place × List DeclKind)) → Rule (List Decl)
-Declaration_of s d K = Then (Attributes d) (λ attrs. Then Modifiers (λ ms. Then (K attrs) (λ w. Only (map (declaration s attrs ms w.0) w.1))))
+abbrev pub DeclarationOf : Scope → ℕ → (List Attr → Rule (Place × List DeclKind)) → Rule (List Decl)
+DeclarationOf s d K = Then (Attributes d) (λ attrs. Then Modifiers (λ ms. Then (K attrs) (λ w. Empty (map (declaration s attrs ms w.0) w.1))))
 
 -- B is a block, whose statements may call initialisers where its flag is true, by how much nesting may open
 module _ (B : ℕ → Bool → Rule Block) where
   -- [ block ]
   abbrev pub Body : ℕ → Bool → Bool → Rule (Option Block)
-  Body d inits true = Then (B d inits) (λ b. Only (Some b))
-  Body d inits false = Only None
+  Body d inits true = Then (B d inits) (λ b. Empty (Some b))
+  Body d inits false = Empty None
 
   -- [ "set" block ], within the braces
   abbrev pub Setter : ℕ → Rule (Option Block)
-  Setter d = Or (Led (word (codes "set")) (λ _. Then (Within (λ e. B e false) d) (λ b. Only (Some b)))) (Only None)
+  Setter d = Or (TokenThen (word (codes "set")) (λ _. Then (Within (λ e. B e false) d) (λ b. Empty (Some b)))) (Empty None)
 
   -- "get" block [ "set" block ] "}"
-  abbrev pub Rest_of_blocks : ℕ → Rule Accessors
-  Rest_of_blocks d = Led (word (codes "get")) (λ _. Then (Within (λ e. B e false) d) (λ g. Then (Setter d) (λ b. Led (mark t.CloseBrace) (λ _. Only (accessors.Blocks g b)))))
+  abbrev pub BlocksTail : ℕ → Rule Accessors
+  BlocksTail d = TokenThen (word (codes "get")) (λ _. Then (Within (λ e. B e false) d) (λ g. Then (Setter d) (λ b. TokenThen (mark t.CloseBrace) (λ _. Empty (accessors.Blocks g b)))))
 
   -- a block that is no list of accessors
   abbrev pub Getter : ℕ → Rule Accessors
-  Getter d = Unless begins_accessors (Then (B d false) (λ b. Only (accessors.Block b)))
+  Getter d = Unless begins_accessors (Then (B d false) (λ b. Empty (accessors.Block b)))
 
   -- accessors with bodies, or without
   abbrev pub Braces : ℕ → Bool → Rule Accessors
-  Braces d true = Or (Or (Nested d (mark t.OpenBrace) (λ _. Rest_of_blocks d)) Nothing) (Getter d)
-  Braces d false = Or (Nested d (mark t.OpenBrace) (λ _. Rest_of_gets)) Nothing
+  Braces d true = Or (Or (Nested d (mark t.OpenBrace) (λ _. BlocksTail d)) Fail) (Getter d)
+  Braces d false = Or (Nested d (mark t.OpenBrace) (λ _. GetsTail)) Fail
 
   -- [ accessors ], with bodies or without, and perhaps stored
   abbrev pub IsAccessors : ℕ → Bool → Bool → Rule Accessors
@@ -486,50 +486,50 @@ module _ (B : ℕ → Bool → Rule Block) where
   -- the text is an interface or not, and the declaration stands in this scope
   module _ (interface : Bool) (s : Scope) where
     -- name sig [ "->" result ] [ reqs ] [ block ]
-    abbrev pub Rest_of_function : ℕ → List Attr → Place → Rule (Place × List DeclKind)
-    Rest_of_function d attrs p = Led identifier (λ n. Then (IsHeader s d true) (λ h. Then (Body d false (has_body interface s attrs)) (λ b. Only (one_kind p (k.Function n h b)))))
+    abbrev pub FunctionTail : ℕ → List Attr → Place → Rule (Place × List DeclKind)
+    FunctionTail d attrs p = TokenThen identifier (λ n. Then (IsHeader s d true) (λ h. Then (Body d false (has_body interface s attrs)) (λ b. Empty (one_kind p (k.Function n h b)))))
 
     -- sig [ reqs ] [ block ]
-    abbrev pub Rest_of_initialiser : ℕ → List Attr → Place → Rule (Place × List DeclKind)
-    Rest_of_initialiser d attrs p = Then (IsHeader s d false) (λ h. Then (Body d true (has_body interface s attrs)) (λ b. Only (one_kind p (k.Initialiser h b))))
+    abbrev pub InitialiserTail : ℕ → List Attr → Place → Rule (Place × List DeclKind)
+    InitialiserTail d attrs p = Then (IsHeader s d false) (λ h. Then (Body d true (has_body interface s attrs)) (λ b. Empty (one_kind p (k.Initialiser h b))))
 
     -- name ":" type [ accessors ]
-    abbrev pub Rest_of_var : ℕ → List Attr → Place → Rule (Place × List DeclKind)
-    Rest_of_var d attrs p = Led identifier (λ n. Led (mark t.Colon) (λ _. Then IsType (λ type. Then (IsAccessors d (has_body interface s attrs) (may_be_stored interface s attrs)) (λ a. Only (one_kind p (k.Property introducer.Var n type a))))))
+    abbrev pub VarTail : ℕ → List Attr → Place → Rule (Place × List DeclKind)
+    VarTail d attrs p = TokenThen identifier (λ n. TokenThen (mark t.Colon) (λ _. Then IsType (λ type. Then (IsAccessors d (has_body interface s attrs) (may_be_stored interface s attrs)) (λ a. Empty (one_kind p (k.Property introducer.Var n type a))))))
 
     -- kind, in braces
-    abbrev pub Member_kind : ℕ → List Attr → Rule (Place × List DeclKind)
-    Member_kind d attrs = Or (Led (only_if (may_stand interface s attrs) (mark t.Func)) (Rest_of_function d attrs))
-        (Or (Led (only_if (not (is_protocol s)) (mark t.Init)) (Rest_of_initialiser d attrs))
-        (Or (Led (only_if (may_stand interface s attrs) (mark t.Var)) (Rest_of_var d attrs))
-        (Or (Led (only_if (may_be_stored interface s attrs) (mark t.Let)) Rest_of_let)
-        (Or (Led (only_if (not (is_protocol s)) (mark t.Typealias)) Rest_of_alias)
-        (Or (Led (only_if (is_protocol s) (mark t.Associatedtype)) Rest_of_associated)
-        (Or (Led (only_if (is_enum s) (mark t.Case)) (Rest_of_cases d)) Nothing))))))
+    abbrev pub MemberKind : ℕ → List Attr → Rule (Place × List DeclKind)
+    MemberKind d attrs = Or (TokenThen (only_if (may_stand interface s attrs) (mark t.Func)) (FunctionTail d attrs))
+        (Or (TokenThen (only_if (not (is_protocol s)) (mark t.Init)) (InitialiserTail d attrs))
+        (Or (TokenThen (only_if (may_stand interface s attrs) (mark t.Var)) (VarTail d attrs))
+        (Or (TokenThen (only_if (may_be_stored interface s attrs) (mark t.Let)) LetTail)
+        (Or (TokenThen (only_if (not (is_protocol s)) (mark t.Typealias)) AliasTail)
+        (Or (TokenThen (only_if (is_protocol s) (mark t.Associatedtype)) AssociatedTail)
+        (Or (TokenThen (only_if (is_enum s) (mark t.Case)) (CasesTail d)) Fail))))))
 
     -- { decl }
     abbrev pub AreMembers : ℕ → Rule (List Decl)
-    AreMembers d = Then (Lines (Declaration_of s d (Member_kind d))) (λ ds. Only (flat_map (λ d. d) ds))
+    AreMembers d = Then (Lines (DeclarationOf s d (MemberKind d))) (λ ds. Empty (flat_map (λ d. d) ds))
 
   module _ (interface : Bool) where
     -- members
     abbrev pub Members : ℕ → Scope → Rule (List Decl)
-    Members d s = Or (Nested d (mark t.OpenBrace) (λ _. Then (Within (AreMembers interface s) d) (λ ms. Led (mark t.CloseBrace) (λ _. Only ms)))) Nothing
+    Members d s = Or (Nested d (mark t.OpenBrace) (λ _. Then (Within (AreMembers interface s) d) (λ ms. TokenThen (mark t.CloseBrace) (λ _. Empty ms)))) Fail
 
     -- name [ inherit ] members
-    abbrev pub Rest_of_nominal : ℕ → List Attr → Place × NominalKind → Rule (Place × List DeclKind)
-    Rest_of_nominal d attrs w = Led identifier (λ n. Then Inherited (λ is. Then (Members d (scope_of w.1 attrs)) (λ ms. Only (one_kind w.0 (k.Nominal w.1 n is ms)))))
+    abbrev pub NominalTail : ℕ → List Attr → Place × NominalKind → Rule (Place × List DeclKind)
+    NominalTail d attrs w = TokenThen identifier (λ n. Then Inherited (λ is. Then (Members d (scope_of w.1 attrs)) (λ ms. Empty (one_kind w.0 (k.Nominal w.1 n is ms)))))
 
     -- type [ inherit ] members
-    abbrev pub Rest_of_extension : ℕ → Place → Rule (Place × List DeclKind)
-    Rest_of_extension d p = Then IsType (λ type. Then Inherited (λ is. Then (Members d scope.Extension) (λ ms. Only (one_kind p (k.Extension type is ms)))))
+    abbrev pub ExtensionTail : ℕ → Place → Rule (Place × List DeclKind)
+    ExtensionTail d p = Then IsType (λ type. Then Inherited (λ is. Then (Members d scope.Extension) (λ ms. Empty (one_kind p (k.Extension type is ms)))))
 
     -- kind, at the top level
-    abbrev pub Top_kind : ℕ → List Attr → Rule (Place × List DeclKind)
-    Top_kind d attrs = Or (Led (mark t.Func) (Rest_of_function interface scope.TopLevel d attrs))
-        (Or (Led nominal_word (Rest_of_nominal d attrs))
-        (Or (Led (mark t.Extension) (Rest_of_extension d)) Nothing))
+    abbrev pub TopKind : ℕ → List Attr → Rule (Place × List DeclKind)
+    TopKind d attrs = Or (TokenThen (mark t.Func) (FunctionTail interface scope.TopLevel d attrs))
+        (Or (TokenThen nominal_word (NominalTail d attrs))
+        (Or (TokenThen (mark t.Extension) (ExtensionTail d)) Fail))
 
     -- decl, at the top level
     abbrev pub IsDeclaration : ℕ → Rule (List Decl)
-    IsDeclaration d = Declaration_of scope.TopLevel d (Top_kind d)
+    IsDeclaration d = DeclarationOf scope.TopLevel d (TopKind d)

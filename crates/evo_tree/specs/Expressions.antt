@@ -14,7 +14,7 @@
 -- A "(" and an operator before its operand nest what follows. `self.init` and `super.init` are statements (Statements).
 use Rattle.std.specs.Prelude.{ℕ, zero, suc, ◌-◌, ◌^◌, List, [], ◌∷◌, Bool, true, false, Option, Some, None, if◌then◌else◌}
 use Rattle.evo_base.specs.declared.place.Place.{Place}
-use Rattle.evo_combinators.specs.Rule.{Only, Nothing, Led, Or, Then, Many}
+use Rattle.evo_combinators.specs.Rule.{Empty, Fail, TokenThen, Or, Then, Many}
 use Rattle.evo_tree.specs.declared.name.Identifier.{Identifier}
 use Rattle.evo_tree.specs.declared.expression.InfixOperator.{InfixOperator}
 use Rattle.evo_tree.specs.declared.expression.InfixOperator.TheVariants as op
@@ -30,8 +30,8 @@ Rule A = List Piece → A → Type 0
 
 -- a token that opens one more nesting, and then what S says, where so much nesting may still open
 abbrev pub Nested : {A B : Type 0} → ℕ → (Piece → Option A) → (A → Rule B) → Rule B
-Nested zero f S = Nothing
-Nested (suc d) f S = Led f S
+Nested zero f S = Fail
+Nested (suc d) f S = TokenThen f S
 
 -- ---- operators
 
@@ -90,11 +90,11 @@ one_operand o x = (o, x) ∷ []
 
 -- operand { operator operand }
 abbrev pub Chain : (Piece → Option InfixOperator) → Rule Expr → Rule Expr
-Chain f S = Then S (λ x. Then (Many f (λ o. Then S (λ y. Only (o, y)))) (λ os. Only (chain x os)))
+Chain f S = Then S (λ x. Then (Many f (λ o. Then S (λ y. Empty (o, y)))) (λ os. Empty (chain x os)))
 
 -- operand [ operator operand ]
 abbrev pub Pair : (Piece → Option InfixOperator) → Rule Expr → Rule Expr
-Pair f S = Then S (λ x. Or (Led f (λ o. Then S (λ y. Only (chain x (one_operand o y))))) (Only x))
+Pair f S = Then S (λ x. Or (TokenThen f (λ o. Then S (λ y. Empty (chain x (one_operand o y))))) (Empty x))
 
 -- the levels of operators over a rule of operands
 abbrev pub Levels : Rule Expr → Rule Expr
@@ -104,69 +104,69 @@ Levels S = Chain (infix_by disjoining) (Chain (infix_by conjoining) (Pair (infix
 module _ (d : ℕ) (Inner Operand : Rule Expr) where
   -- [ name ":" ] expr
   abbrev pub Argument : Rule (Option Identifier × Expr)
-  Argument = Or (Led identifier (λ n. Led (mark t.Colon) (λ _. Then Inner (λ x. Only (Some n, x))))) (Then Inner (λ x. Only (None, x)))
+  Argument = Or (TokenThen identifier (λ n. TokenThen (mark t.Colon) (λ _. Then Inner (λ x. Empty (Some n, x))))) (Then Inner (λ x. Empty (None, x)))
 
   -- arg { "," arg }
-  abbrev pub Listed_arguments : Rule (List (Option Identifier × Expr))
-  Listed_arguments = Then Argument (λ a. Then (Many (mark t.Comma) (λ _. Argument)) (λ as'. Only (a ∷ as')))
+  abbrev pub ListedArguments : Rule (List (Option Identifier × Expr))
+  ListedArguments = Then Argument (λ a. Then (Many (mark t.Comma) (λ _. Argument)) (λ as'. Empty (a ∷ as')))
 
   -- [ arg { "," arg } ] ")"
-  abbrev pub Rest_of_arguments : Rule (List (Option Identifier × Expr))
-  Rest_of_arguments = Or (Led (mark t.CloseParenthesis) (λ _. Only [])) (Then Listed_arguments (λ as'. Led (mark t.CloseParenthesis) (λ _. Only as')))
+  abbrev pub ArgumentsTail : Rule (List (Option Identifier × Expr))
+  ArgumentsTail = Or (TokenThen (mark t.CloseParenthesis) (λ _. Empty [])) (Then ListedArguments (λ as'. TokenThen (mark t.CloseParenthesis) (λ _. Empty as')))
 
   -- [ args ]
   abbrev pub Arguments : Rule (Option (List (Option Identifier × Expr)))
-  Arguments = Or (Nested d call (λ _. Then Rest_of_arguments (λ as'. Only (Some as')))) (Only None)
+  Arguments = Or (Nested d call (λ _. Then ArgumentsTail (λ as'. Empty (Some as')))) (Empty None)
 
   -- args
   abbrev pub Call : Rule (List (Option Identifier × Expr))
-  Call = Or (Nested d call (λ _. Rest_of_arguments)) Nothing
+  Call = Or (Nested d call (λ _. ArgumentsTail)) Fail
 
   -- name [ args ]
   abbrev pub Member : Rule (Identifier × Option (List (Option Identifier × Expr)))
-  Member = Led identifier (λ n. Then Arguments (λ as'. Only (n, as')))
+  Member = TokenThen identifier (λ n. Then Arguments (λ as'. Empty (n, as')))
 
   -- expr ")"
-  abbrev pub Rest_of_group : Place → Rule Expr
-  Rest_of_group p = Then Inner (λ x. Led (mark t.CloseParenthesis) (λ _. Only (e.Parenthesised p x)))
+  abbrev pub GroupTail : Place → Rule Expr
+  GroupTail p = Then Inner (λ x. TokenThen (mark t.CloseParenthesis) (λ _. Empty (e.Parenthesised p x)))
 
   -- "." name args, behind `super`
-  abbrev pub Rest_of_super : Place → Rule Expr
-  Rest_of_super p = Led (mark t.Dot) (λ _. Led identifier (λ n. Then Call (λ as'. Only (e.Super p n as'))))
+  abbrev pub SuperTail : Place → Rule Expr
+  SuperTail p = TokenThen (mark t.Dot) (λ _. TokenThen identifier (λ n. Then Call (λ as'. Empty (e.Super p n as'))))
 
   -- an integer behind the `-` that belongs to it
   abbrev pub Magnitude : Place → Rule Expr
-  Magnitude p = Led (integer (2 ^ 63)) (λ v. Only (e.Negative p v.1))
+  Magnitude p = TokenThen (integer (2 ^ 63)) (λ v. Empty (e.Negative p v.1))
 
   abbrev pub Primary : Rule Expr
-  Primary = Or (Led identifier (λ n. Then Arguments (λ as'. Only (e.Name n as'))))
-      (Or (Led (integer (2 ^ 63 - 1)) (λ v. Only (e.Integer v.0 v.1)))
-      (Or (Led string (λ v. Only (e.String v.0 v.1)))
-      (Or (Led (mark t.SelfValue) (λ p. Only (e.SelfValue p)))
-      (Or (Led (mark t.SelfType) (λ p. Only (e.SelfType p)))
-      (Or (Led (mark t.Super) Rest_of_super)
-      (Or (Led (mark t.True) (λ p. Only (e.Boolean p true)))
-      (Or (Led (mark t.False) (λ p. Only (e.Boolean p false)))
-      (Or (Led negative Magnitude)
-      (Or (Nested d (mark t.OpenParenthesis) Rest_of_group)
-      (Or (Led (mark t.Dot) (λ p. Then Member (λ m. Only (e.ImplicitMember p m.0 m.1)))) Nothing))))))))))
+  Primary = Or (TokenThen identifier (λ n. Then Arguments (λ as'. Empty (e.Name n as'))))
+      (Or (TokenThen (integer (2 ^ 63 - 1)) (λ v. Empty (e.Integer v.0 v.1)))
+      (Or (TokenThen string (λ v. Empty (e.String v.0 v.1)))
+      (Or (TokenThen (mark t.SelfValue) (λ p. Empty (e.SelfValue p)))
+      (Or (TokenThen (mark t.SelfType) (λ p. Empty (e.SelfType p)))
+      (Or (TokenThen (mark t.Super) SuperTail)
+      (Or (TokenThen (mark t.True) (λ p. Empty (e.Boolean p true)))
+      (Or (TokenThen (mark t.False) (λ p. Empty (e.Boolean p false)))
+      (Or (TokenThen negative Magnitude)
+      (Or (Nested d (mark t.OpenParenthesis) GroupTail)
+      (Or (TokenThen (mark t.Dot) (λ p. Then Member (λ m. Empty (e.ImplicitMember p m.0 m.1)))) Fail))))))))))
 
   -- { "." name [ args ] }
   abbrev pub Links : Expr → Rule Expr
-  Links x = Then (Many (mark t.Dot) (λ _. Member)) (λ ms. Only (members x ms))
+  Links x = Then (Many (mark t.Dot) (λ _. Member)) (λ ms. Empty (members x ms))
 
   -- primary { "." name [ args ] }
-  abbrev pub Post : Rule Expr
-  Post = Then Primary Links
+  abbrev pub Postfix : Rule Expr
+  Postfix = Then Primary Links
 
   -- sign unary | post
-  abbrev pub Unary_of : Rule Expr
-  Unary_of = Or (Nested d sign (λ s. Then Operand (λ x. Only (e.Prefix s.0 s.1 x)))) Post
+  abbrev pub UnaryOf : Rule Expr
+  UnaryOf = Or (Nested d sign (λ s. Then Operand (λ x. Empty (e.Prefix s.0 s.1 x)))) Postfix
 
 -- with this much nesting
 unfoldable pub Unary : ℕ → Rule Expr
-Unary zero = Unary_of zero Nothing Nothing
-Unary (suc d) = Unary_of (suc d) (Levels (Unary d)) (Unary d)
+Unary zero = UnaryOf zero Fail Fail
+Unary (suc d) = UnaryOf (suc d) (Levels (Unary d)) (Unary d)
 
 -- an expression with at most this much nesting
 abbrev pub IsExpr : ℕ → Rule Expr

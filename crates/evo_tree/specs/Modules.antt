@@ -11,9 +11,9 @@ use Rattle.std.specs.Prelude.{◌≡◌, ◌⊎◌, ℕ, ◌^◌, ◌<◌, List,
 use Rattle.std.specs.Fmt.{decimal}
 use Rattle.std.specs.Str.{IsUtf8}
 use Rattle.evo_base.specs.declared.token.Token.{Token}
-use Rattle.evo_combinators.specs.Rule.{Only, Led, Or, Then}
+use Rattle.evo_combinators.specs.Rule.{Empty, TokenThen, Or, Then}
 use Rattle.evo_combinators.specs.Guard.{Run}
-use Rattle.evo_lex.specs.Cut.{Cut}
+use Rattle.evo_lex.specs.Tokenization.{Tokenization}
 use Rattle.evo_words.specs.Module.{IsModule}
 use Rattle.evo_tree.specs.declared.name.Identifier.{Identifier}
 use Rattle.evo_tree.specs.declared.statement.Block.{Block}
@@ -58,31 +58,31 @@ is_interface f = false
 module _ (B : ℕ → Bool → Rule Block) (S : ℕ → Rule Stmt) where
   -- decl
   abbrev pub Declared : Form → ℕ → Rule (List Item)
-  Declared f d = Then (IsDeclaration B (is_interface f) d) (λ ds. Only (map item.Decl ds))
+  Declared f d = Then (IsDeclaration B (is_interface f) d) (λ ds. Empty (map item.Decl ds))
 
   -- decl, or in a client decl | stmt
   abbrev pub Items : Form → ℕ → Rule (List Item)
-  Items form.Client d = Or (Declared form.Client d) (Then (S d) (λ x. Only (item.Stmt x ∷ [])))
+  Items form.Client d = Or (Declared form.Client d) (Then (S d) (λ x. Empty (item.Stmt x ∷ [])))
   Items (form.Library n) d = Declared (form.Library n) d
   Items form.Interface d = Declared form.Interface d
 
   -- import
   abbrev pub Import : Rule ModulePart
-  Import = Led (mark t.Import) (λ _. Led identifier (λ n. Only (part.Import n)))
+  Import = TokenThen (mark t.Import) (λ _. TokenThen identifier (λ n. Empty (part.Import n)))
 
   -- an import, where it may stand, or items
-  abbrev pub Part_of : Form → ℕ → Bool → Rule ModulePart
-  Part_of f d may = Or (Led (only_if may (mark t.Import)) (λ _. Led identifier (λ n. Only (part.Import n)))) (Then (Items f d) (λ is. Only (part.Items is)))
+  abbrev pub PartOf : Form → ℕ → Bool → Rule ModulePart
+  PartOf f d may = Or (TokenThen (only_if may (mark t.Import)) (λ _. TokenThen identifier (λ n. Empty (part.Import n)))) (Then (Items f d) (λ is. Empty (part.Items is)))
 
   -- the first part, or a further one behind a separator, and whether it may be an import
-  abbrev pub Part_at : Form → ℕ → PartSpot → Rule ModulePart
-  Part_at f d spot.Leading = Part_of f d true
-  Part_at f d (spot.Further may) = Next (Part_of f d may)
+  abbrev pub PartAt : Form → ℕ → PartSpot → Rule ModulePart
+  PartAt f d spot.Leading = PartOf f d true
+  PartAt f d (spot.Further may) = Next (PartOf f d may)
 
   abbrev pub Parts : Form → ℕ → Rule (List ModulePart)
-  Parts form.Interface d = Then Import (λ x. Then (Run (Part_at form.Interface d) after_part (spot.Further false)) (λ xs. Only (x ∷ xs)))
-  Parts form.Client d = Run (Part_at form.Client d) after_part spot.Leading
-  Parts (form.Library n) d = Run (Part_at (form.Library n) d) after_part spot.Leading
+  Parts form.Interface d = Then Import (λ x. Then (Run (PartAt form.Interface d) after_part (spot.Further false)) (λ xs. Empty (x ∷ xs)))
+  Parts form.Client d = Run (PartAt form.Client d) after_part spot.Leading
+  Parts (form.Library n) d = Run (PartAt (form.Library n) d) after_part spot.Leading
 
 -- ---- texts
 
@@ -118,7 +118,7 @@ nesting = 64
 -- the text, read in this form, is this module: it is cut into tokens which spell its parts
 pub record Spells (text : List ℕ) (f : Form) (m : ModuleTree) : Type 0 where
   pub tokens : List Token
-  pub cut : Cut text tokens
+  pub cut : Tokenization text tokens
   pub parts : List ModulePart
   pub spelled : Parts (λ d inits. IsBlock inits d) (λ d. Later (IsStmt false d)) f nesting (pieces text tokens) parts
   pub form_is : m.form ≡ f

@@ -17,7 +17,7 @@
 -- in initialisers alone. A clause for all that is left is the last one. The "{" of blocks and of `switch` and the "(" of a pattern nest.
 use Rattle.std.specs.Prelude.{ℕ, zero, suc, ◌-◌, ◌^◌, List, [], ◌∷◌, ◌++◌, Bool, true, false, not, ◌||◌, ◌&&◌, Option, Some, None, codes, if◌then◌else◌}
 use Rattle.evo_base.specs.declared.place.Place.{Place}
-use Rattle.evo_combinators.specs.Rule.{Only, Nothing, Led, One, Or, Then, Many}
+use Rattle.evo_combinators.specs.Rule.{Empty, Fail, TokenThen, One, Or, Then, Many}
 use Rattle.evo_combinators.specs.Guard.{On, Run}
 use Rattle.evo_tree.specs.declared.name.Identifier.{Identifier}
 use Rattle.evo_tree.specs.declared.name.TypeName.{TypeName}
@@ -138,41 +138,41 @@ is_last_branch before b = has_none b.0
 -- ---- patterns
 
 -- "let" name | "_"
-abbrev pub Binder : Option Identifier → Rule Binding
-Binder l = Or (Led (mark t.Let) (λ _. Led identifier (λ n. Only (binding l (Some n))))) (Led (mark t.Underscore) (λ _. Only (binding l None)))
+abbrev pub BindingPattern : Option Identifier → Rule Binding
+BindingPattern l = Or (TokenThen (mark t.Let) (λ _. TokenThen identifier (λ n. Empty (binding l (Some n))))) (TokenThen (mark t.Underscore) (λ _. Empty (binding l None)))
 
 -- [ name ":" ] ("let" name | "_")
-abbrev pub Sub : Rule Binding
-Sub = Or (Led identifier (λ l. Led (mark t.Colon) (λ _. Binder (Some l)))) (Binder None)
+abbrev pub PayloadPattern : Rule Binding
+PayloadPattern = Or (TokenThen identifier (λ l. TokenThen (mark t.Colon) (λ _. BindingPattern (Some l)))) (BindingPattern None)
 
 -- sub { "," sub }
 abbrev pub Subs : Rule (List Binding)
-Subs = Then Sub (λ b. Then (Many (mark t.Comma) (λ _. Sub)) (λ bs. Only (b ∷ bs)))
+Subs = Then PayloadPattern (λ b. Then (Many (mark t.Comma) (λ _. PayloadPattern)) (λ bs. Empty (b ∷ bs)))
 
 -- sub { "," sub } ")"
-abbrev pub Rest_of_payload : Rule (List Binding)
-Rest_of_payload = Then Subs (λ bs. Led (mark t.CloseParenthesis) (λ _. Only bs))
+abbrev pub PayloadTail : Rule (List Binding)
+PayloadTail = Then Subs (λ bs. TokenThen (mark t.CloseParenthesis) (λ _. Empty bs))
 
 -- [ "(" sub { "," sub } ")" ], where so much nesting may open
 abbrev pub Payload : ℕ → Rule (Option (List Binding))
-Payload d = Or (Nested d (mark t.OpenParenthesis) (λ _. Then Rest_of_payload (λ bs. Only (Some bs)))) (Only None)
+Payload d = Or (Nested d (mark t.OpenParenthesis) (λ _. Then PayloadTail (λ bs. Empty (Some bs)))) (Empty None)
 
 -- "." name { "." name }, behind a name or `Self`
 abbrev pub Path : Place × List ℕ → Rule (TypeName × Identifier)
-Path head = Led (mark t.Dot) (λ _. Led identifier (λ n. Then (Many (mark t.Dot) (λ _. One identifier)) (λ ns. Only (path_of head.0 (head.1 ∷ []) n ns))))
+Path head = TokenThen (mark t.Dot) (λ _. TokenThen identifier (λ n. Then (Many (mark t.Dot) (λ _. One identifier)) (λ ns. Empty (path_of head.0 (head.1 ∷ []) n ns))))
 
 -- an integer behind the `-` that belongs to it
 abbrev pub Magnitude : Place → Rule Pattern
-Magnitude p = Led (integer (2 ^ 63)) (λ v. Only (pattern.Negative p v.1))
+Magnitude p = TokenThen (integer (2 ^ 63)) (λ v. Empty (pattern.Negative p v.1))
 
 abbrev pub IsPattern : ℕ → Rule Pattern
-IsPattern d = Or (Led (mark t.Dot) (λ p. Led identifier (λ n. Then (Payload d) (λ bs. Only (pattern.Case p None n bs)))))
-    (Or (Led type_head (λ head. Then (Path head) (λ path. Then (Payload d) (λ bs. Only (case_of_type path head.0 bs)))))
-    (Or (Led negative Magnitude)
-    (Or (Led (integer (2 ^ 63 - 1)) (λ v. Only (pattern.Integer v.0 v.1)))
-    (Or (Led string (λ v. Only (pattern.String v.0 v.1)))
-    (Or (Led (mark t.True) (λ p. Only (pattern.Boolean p true)))
-    (Led (mark t.False) (λ p. Only (pattern.Boolean p false))))))))
+IsPattern d = Or (TokenThen (mark t.Dot) (λ p. TokenThen identifier (λ n. Then (Payload d) (λ bs. Empty (pattern.Case p None n bs)))))
+    (Or (TokenThen type_head (λ head. Then (Path head) (λ path. Then (Payload d) (λ bs. Empty (case_of_type path head.0 bs)))))
+    (Or (TokenThen negative Magnitude)
+    (Or (TokenThen (integer (2 ^ 63 - 1)) (λ v. Empty (pattern.Integer v.0 v.1)))
+    (Or (TokenThen string (λ v. Empty (pattern.String v.0 v.1)))
+    (Or (TokenThen (mark t.True) (λ p. Empty (pattern.Boolean p true)))
+    (TokenThen (mark t.False) (λ p. Empty (pattern.Boolean p false))))))))
 
 -- ---- several statements. S is a statement.
 
@@ -183,7 +183,7 @@ Later S = On is_later S
 -- the first statement (true), or a further one behind a separator
 abbrev pub statement_at : Rule Stmt → Bool → Rule Stmt
 statement_at S true = S
-statement_at S false = Or (Led (mark t.Semicolon) (λ _. Later S)) (On is_below (Later S))
+statement_at S false = Or (TokenThen (mark t.Semicolon) (λ _. Later S)) (On is_below (Later S))
 
 abbrev pub no_longer_first : Bool → Stmt → Bool
 no_longer_first first x = false
@@ -193,41 +193,41 @@ abbrev pub Statements : Rule Stmt → Bool → Rule (List Stmt)
 Statements S first = Run (statement_at S) no_longer_first first
 
 -- stmt { separator stmt }
-abbrev pub Some_statements : Rule Stmt → Rule (List Stmt)
-Some_statements S = Then S (λ x. Then (Statements S false) (λ xs. Only (x ∷ xs)))
+abbrev pub SomeStatements : Rule Stmt → Rule (List Stmt)
+SomeStatements S = Then S (λ x. Then (Statements S false) (λ xs. Empty (x ∷ xs)))
 
 -- [ stmt { separator stmt } ] "}"
-abbrev pub Rest_of_block : Rule Stmt → Place → Rule Block
-Rest_of_block S p = Then (Statements S true) (λ ss. Led (mark t.CloseBrace) (λ q. Only (block p ss q)))
+abbrev pub BlockTail : Rule Stmt → Place → Rule Block
+BlockTail S p = Then (Statements S true) (λ ss. TokenThen (mark t.CloseBrace) (λ q. Empty (block p ss q)))
 
 -- "{" statements "}", where so much nesting may open
-abbrev pub Block_of : ℕ → Rule Stmt → Rule Block
-Block_of d S = Or (Nested d (mark t.OpenBrace) (Rest_of_block S)) Nothing
+abbrev pub BlockOf : ℕ → Rule Stmt → Rule Block
+BlockOf d S = Or (Nested d (mark t.OpenBrace) (BlockTail S)) Fail
 
 -- ---- clauses. S is a statement in the braces, where so much nesting may open.
 
 -- pattern { "," pattern }
 abbrev pub Patterns : ℕ → Rule (List Pattern)
-Patterns d = Then (IsPattern d) (λ x. Then (Many (mark t.Comma) (λ _. IsPattern d)) (λ xs. Only (x ∷ xs)))
+Patterns d = Then (IsPattern d) (λ x. Then (Many (mark t.Comma) (λ _. IsPattern d)) (λ xs. Empty (x ∷ xs)))
 
 -- "case" pattern { "," pattern } | "default" | "@" "unknown" "default"
 abbrev pub Label : ℕ → Rule (Place × ClauseLabel)
-Label d = Or (Led (mark t.Case) (λ p. Then (Patterns d) (λ xs. Only (p, label.Case xs))))
-    (Or (Led (mark t.Default) (λ p. Only (p, label.Default)))
-    (Led (mark t.At) (λ p. Led (word (codes "unknown")) (λ _. Led (mark t.Default) (λ _. Only (p, label.UnknownDefault))))))
+Label d = Or (TokenThen (mark t.Case) (λ p. Then (Patterns d) (λ xs. Empty (p, label.Case xs))))
+    (Or (TokenThen (mark t.Default) (λ p. Empty (p, label.Default)))
+    (TokenThen (mark t.At) (λ p. TokenThen (word (codes "unknown")) (λ _. TokenThen (mark t.Default) (λ _. Empty (p, label.UnknownDefault))))))
 
 -- label ":" stmt { separator stmt }
 abbrev pub IsClause : ℕ → Rule Stmt → Rule Clause
-IsClause d S = Then (Label d) (λ l. Led (mark t.Colon) (λ _. Then (Some_statements S) (λ ss. Only (clause l ss))))
+IsClause d S = Then (Label d) (λ l. TokenThen (mark t.Colon) (λ _. Then (SomeStatements S) (λ ss. Empty (clause l ss))))
 
 -- a further clause, unless one took all that is left
 abbrev pub clause_at : ℕ → Rule Stmt → Bool → Rule Clause
-clause_at d S true = Nothing
+clause_at d S true = Fail
 clause_at d S false = IsClause d S
 
 -- clause { clause } "}"
-abbrev pub Rest_of_clauses : ℕ → Rule Stmt → Rule (List Clause)
-Rest_of_clauses d S = Then (IsClause d S) (λ c. Then (Run (clause_at d S) is_last_clause (is_last_clause false c)) (λ cs. Led (mark t.CloseBrace) (λ _. Only (c ∷ cs))))
+abbrev pub ClausesTail : ℕ → Rule Stmt → Rule (List Clause)
+ClausesTail d S = Then (IsClause d S) (λ c. Then (Run (clause_at d S) is_last_clause (is_last_clause false c)) (λ cs. TokenThen (mark t.CloseBrace) (λ _. Empty (c ∷ cs))))
 
 -- one nesting less
 abbrev pub less : ℕ → ℕ
@@ -235,98 +235,98 @@ less zero = zero
 less (suc d) = d
 
 -- "{" clauses "}", where so much nesting may open
-abbrev pub Clauses_of : ℕ → Rule Stmt → Rule (List Clause)
-Clauses_of d S = Or (Nested d (mark t.OpenBrace) (λ _. Rest_of_clauses (less d) S)) Nothing
+abbrev pub ClausesOf : ℕ → Rule Stmt → Rule (List Clause)
+ClausesOf d S = Or (Nested d (mark t.OpenBrace) (λ _. ClausesTail (less d) S)) Fail
 
 -- ---- statements. d is how much nesting may open, E an expression, A the arguments of a call, S a statement in braces, and
 -- inits says whether the statements of initialisers may stand.
 
 -- [ ":" type ]
 abbrev pub Annotation : Rule (Option TypeName)
-Annotation = Or (Led (mark t.Colon) (λ _. Then IsType (λ n. Only (Some n)))) (Only None)
+Annotation = Or (TokenThen (mark t.Colon) (λ _. Then IsType (λ n. Empty (Some n)))) (Empty None)
 
 module _ (inits : Bool) (d : ℕ) (E : Rule Expr) (A : Rule (List (Option Identifier × Expr))) (S : Rule Stmt) where
   -- name [ ":" type ] "=" expr
-  abbrev pub Rest_of_local : Place × Introducer → Rule Stmt
-  Rest_of_local i = Led identifier (λ n. Then Annotation (λ ty. Led (mark t.Equal) (λ _. Then E (λ y. Only (s.Local i.0 i.1 n ty y)))))
+  abbrev pub LocalTail : Place × Introducer → Rule Stmt
+  LocalTail i = TokenThen identifier (λ n. Then Annotation (λ ty. TokenThen (mark t.Equal) (λ _. Then E (λ y. Empty (s.Local i.0 i.1 n ty y)))))
 
   -- "=" expr
-  abbrev pub Rest_of_discard : Place → Rule Stmt
-  Rest_of_discard p = Led (mark t.Equal) (λ _. Then E (λ y. Only (s.Discard p y)))
+  abbrev pub DiscardTail : Place → Rule Stmt
+  DiscardTail p = TokenThen (mark t.Equal) (λ _. Then E (λ y. Empty (s.Discard p y)))
 
   -- expr block
   abbrev pub Branch : Rule (Option Expr × Block)
-  Branch = Then E (λ y. Then (Block_of d S) (λ b. Only (Some y, b)))
+  Branch = Then E (λ y. Then (BlockOf d S) (λ b. Empty (Some y, b)))
 
   -- "if" expr block | block
-  abbrev pub Behind_else : Rule (Option Expr × Block)
-  Behind_else = Or (Led (mark t.If) (λ _. Branch)) (Then (Block_of d S) (λ b. Only (None, b)))
+  abbrev pub BehindElse : Rule (Option Expr × Block)
+  BehindElse = Or (TokenThen (mark t.If) (λ _. Branch)) (Then (BlockOf d S) (λ b. Empty (None, b)))
 
   -- "else" branch, unless a branch has no condition
   abbrev pub else_at : Bool → Rule (Option Expr × Block)
-  else_at true = Nothing
-  else_at false = Led (mark t.Else) (λ _. Behind_else)
+  else_at true = Fail
+  else_at false = TokenThen (mark t.Else) (λ _. BehindElse)
 
   -- expr block { "else" "if" expr block } [ "else" block ]
-  abbrev pub Rest_of_if : Place → Rule Stmt
-  Rest_of_if p = Then Branch (λ b. Then (Run else_at is_last_branch false) (λ bs. Only (s.If p (b ∷ bs))))
+  abbrev pub IfTail : Place → Rule Stmt
+  IfTail p = Then Branch (λ b. Then (Run else_at is_last_branch false) (λ bs. Empty (s.If p (b ∷ bs))))
 
   -- expr block
-  abbrev pub Rest_of_while : Place → Rule Stmt
-  Rest_of_while p = Then E (λ y. Then (Block_of d S) (λ b. Only (s.While p y b)))
+  abbrev pub WhileTail : Place → Rule Stmt
+  WhileTail p = Then E (λ y. Then (BlockOf d S) (λ b. Empty (s.While p y b)))
 
   -- [ expr ]
   abbrev pub Value : Rule (Option Expr)
-  Value = Or (Then (On is_here E) (λ y. Only (Some y))) (Only None)
+  Value = Or (Then (On is_here E) (λ y. Empty (Some y))) (Empty None)
 
-  abbrev pub Rest_of_return : Place → Rule Stmt
-  Rest_of_return p = Then Value (λ y. Only (s.Return p y))
+  abbrev pub ReturnTail : Place → Rule Stmt
+  ReturnTail p = Then Value (λ y. Empty (s.Return p y))
 
   -- expr "{" clauses "}"
-  abbrev pub Rest_of_switch : Place → Rule Stmt
-  Rest_of_switch p = Then E (λ y. Then (Clauses_of d S) (λ cs. Only (s.Switch p y cs)))
+  abbrev pub SwitchTail : Place → Rule Stmt
+  SwitchTail p = Then E (λ y. Then (ClausesOf d S) (λ cs. Empty (s.Switch p y cs)))
 
   -- "." "init" args
-  abbrev pub Rest_of_init : (List (Option Identifier × Expr) → Stmt) → Rule Stmt
-  Rest_of_init f = Led (mark t.Dot) (λ _. Led (mark t.Init) (λ _. Then A (λ as'. Only (f as'))))
+  abbrev pub InitTail : (List (Option Identifier × Expr) → Stmt) → Rule Stmt
+  InitTail f = TokenThen (mark t.Dot) (λ _. TokenThen (mark t.Init) (λ _. Then A (λ as'. Empty (f as'))))
 
   -- [ operator expr ]
-  abbrev pub Rest_of_assignment : Expr → Rule Stmt
-  Rest_of_assignment y = Or (Led (assigns_to y) (λ o. Then E (λ z. Only (s.Assign y o z)))) (Only (s.Expr y))
+  abbrev pub AssignmentTail : Expr → Rule Stmt
+  AssignmentTail y = Or (TokenThen (assigns_to y) (λ o. Then E (λ z. Empty (s.Assign y o z)))) (Empty (s.Expr y))
 
   -- post operator expr | expr
   abbrev pub Action : Rule Stmt
-  Action = Then E Rest_of_assignment
+  Action = Then E AssignmentTail
 
   -- "self" "." "init" args | "super" "." "init" args | action
-  abbrev pub Action_of : Bool → Rule Stmt
-  Action_of false = Action
-  Action_of true = Or (Led (mark t.SelfValue) (λ p. Rest_of_init (s.SelfInit p))) (Or (Led (mark t.Super) (λ p. Rest_of_init (s.SuperInit p))) Action)
+  abbrev pub ActionOf : Bool → Rule Stmt
+  ActionOf false = Action
+  ActionOf true = Or (TokenThen (mark t.SelfValue) (λ p. InitTail (s.SelfInit p))) (Or (TokenThen (mark t.Super) (λ p. InitTail (s.SuperInit p))) Action)
 
-  abbrev pub Stmt_of : Rule Stmt
-  Stmt_of = Or (Led introduces Rest_of_local)
-      (Or (Led (mark t.Underscore) Rest_of_discard)
-      (Or (Led (mark t.If) Rest_of_if)
-      (Or (Led (mark t.While) Rest_of_while)
-      (Or (Led (mark t.Return) Rest_of_return)
-      (Or (Led (mark t.Break) (λ p. Only (s.Break p)))
-      (Or (Led (mark t.Continue) (λ p. Only (s.Continue p)))
-      (Or (Led (mark t.Switch) Rest_of_switch) (Action_of inits))))))))
+  abbrev pub StmtOf : Rule Stmt
+  StmtOf = Or (TokenThen introduces LocalTail)
+      (Or (TokenThen (mark t.Underscore) DiscardTail)
+      (Or (TokenThen (mark t.If) IfTail)
+      (Or (TokenThen (mark t.While) WhileTail)
+      (Or (TokenThen (mark t.Return) ReturnTail)
+      (Or (TokenThen (mark t.Break) (λ p. Empty (s.Break p)))
+      (Or (TokenThen (mark t.Continue) (λ p. Empty (s.Continue p)))
+      (Or (TokenThen (mark t.Switch) SwitchTail) (ActionOf inits))))))))
 
 -- the arguments of a call, with this much nesting
 abbrev pub IsCall : ℕ → Rule (List (Option Identifier × Expr))
-IsCall zero = Call zero Nothing Nothing
+IsCall zero = Call zero Fail Fail
 IsCall (suc d) = Call (suc d) (IsExpr d) (Unary d)
 
 -- a statement with at most this much nesting
 unfoldable pub IsStmt : Bool → ℕ → Rule Stmt
-IsStmt inits zero = Stmt_of inits zero (IsExpr zero) (IsCall zero) Nothing
-IsStmt inits (suc d) = Stmt_of inits (suc d) (IsExpr (suc d)) (IsCall (suc d)) (IsStmt inits d)
+IsStmt inits zero = StmtOf inits zero (IsExpr zero) (IsCall zero) Fail
+IsStmt inits (suc d) = StmtOf inits (suc d) (IsExpr (suc d)) (IsCall (suc d)) (IsStmt inits d)
 
 -- a block with at most this much nesting
 abbrev pub IsBlock : Bool → ℕ → Rule Block
-IsBlock inits zero = Block_of zero Nothing
-IsBlock inits (suc d) = Block_of (suc d) (IsStmt inits d)
+IsBlock inits zero = BlockOf zero Fail
+IsBlock inits (suc d) = BlockOf (suc d) (IsStmt inits d)
 
 -- a statement of a client, the first one (true) or one behind a separator
 abbrev pub IsStatement : Bool → ℕ → Rule Stmt

@@ -4,7 +4,7 @@
 use Rattle.std.specs.Prelude.{ℕ, List, [], ◌∷◌, Option, Some, None, ◌&&◌, ◌||◌, codes}
 use Rattle.std.specs.Str.{is_utf8}
 use Rattle.evo_base.specs.declared.place.Place.{Place}
-use Rattle.evo_combinators.specs.Rule.{Only, One, Then, Many}
+use Rattle.evo_combinators.specs.Rule.{Empty, One, Then, Many}
 use Rattle.evo_lex.specs.Front.{when}
 use Rattle.evo_tree.specs.declared.name.TypeName.{TypeName}
 use Rattle.evo_tree.specs.declared.terminal.Terminal.TheVariants as t
@@ -23,4 +23,4 @@ abbrev pub type_name : Place × List ℕ → List (List ℕ) → TypeName
 type_name head names = record { place = head.0; names = head.1 ∷ names }
 
 abbrev pub IsType : Rule TypeName
-IsType = Then (One type_head) (λ head. Then (Many (mark t.Dot) (λ _. One plain_name)) (λ names. Only (type_name head names)))
+IsType = Then (One type_head) (λ head. Then (Many (mark t.Dot) (λ _. One plain_name)) (λ names. Empty (type_name head names)))

@@ -8,7 +8,7 @@ use Rattle.evo_driver.specs.Files.{name_of}
 use Rattle.evo_driver.specs.Loading.{run_with}
 use Rattle.evo_driver.specs.Top.{Means, Replies}
 use Rattle.evo_driver.proofs.Built.{builds_of}
-use Rattle.evo_driver.proofs.Gives.{Appends-none, GivesAs-weaker, nothing_out}
+use Rattle.evo_driver.proofs.Gives.{Appends-none, GivesResult-weaker, nothing_out}
 use Rattle.evo_driver.proofs.Loads.{answers_broken}
 use Rattle.evo_driver.proofs.job.evolve.Goals as goal
 
@@ -25,7 +25,7 @@ returns-in-Ok g c words is =
           (subst (λ (i : Interface). AnswersRun (run_of (record { old = i.functions; new = c.in-Ok.loaded.libraries.functions }) c.in-Ok.loaded.client.prints c.args.job.now.ticks) a) load.1.interface_is e),
       load.0,
     ) in
-    GivesAs-weaker (AnswersRun run) _ _ _ _ _ (g.O.Sink.takes c.args.out.now) _ _ means c.run.ensures
+    GivesResult-weaker (AnswersRun run) _ _ _ _ _ (g.O.Sink.takes c.args.out.now) _ _ means c.run.ensures
 
 pub returns-in-Err-Broken : goal.returns-in-Err-Broken
 returns-in-Err-Broken g c words is =
@@ -33,7 +33,7 @@ returns-in-Err-Broken g c words is =
     let lines = removed_lines c.args.job.now.library c.as_slice.result.now in
     let means : (a : Answer) → a ≡ report_answer lines → Means words (g.F.Files.held c.args.files.now) (g.F.Files.gets c.args.files.now) (g.F.Files.faults c.args.files.now) (g.F.Files.faults c.load.new.files) (g.F.Files.failed c.load.new.files) a
     = λ a e. inl (answers_broken words (g.F.Files.held c.args.files.now) c.args.job.now c.in-Err-Broken.names c.as_slice.result.now is load.1 c.as_slice.ensures a e, load.0) in
-    GivesAs-weaker (λ (a : Answer). a ≡ report_answer lines) _ _ _ _ _ (g.O.Sink.takes c.args.out.now) _ _ means c.report.ensures
+    GivesResult-weaker (λ (a : Answer). a ≡ report_answer lines) _ _ _ _ _ (g.O.Sink.takes c.args.out.now) _ _ means c.report.ensures
 
 pub returns-in_ok-refused-in-Err-Refused : goal.returns-in_ok-refused-in-Err-Refused
 returns-in_ok-refused-in-Err-Refused g c words is =

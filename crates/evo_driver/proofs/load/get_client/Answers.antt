@@ -1,6 +1,6 @@
 use Rattle.std.proofs.lemmas.Result.{err_from_is_err_and}
 use Rattle.evo_driver.specs.declared.stop.Refusal.{Refusal}
-use Rattle.evo_driver.specs.declared.stop.Which.TheVariants as which
+use Rattle.evo_driver.specs.declared.stop.Input.TheVariants as which
 use Rattle.evo_driver.specs.Files.{Holds, IsWrongClient}
 use Rattle.evo_driver.specs.Loading.{IsWrongText}
 use Rattle.evo_driver.proofs.Loads.{lacks_as, no_client}

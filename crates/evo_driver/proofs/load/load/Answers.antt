@@ -3,7 +3,7 @@ use Rattle.std.proofs.lemmas.Result.{err_from_is_err_and}
 use Rattle.evo_first_form.specs.declared.Interface.{Interface}
 use Rattle.evo_first_form.specs.Interface.{interface_of}
 use Rattle.evo_driver.specs.declared.stop.Refusal.{Refusal}
-use Rattle.evo_driver.specs.declared.stop.Which.TheVariants as which
+use Rattle.evo_driver.specs.declared.stop.Input.TheVariants as which
 use Rattle.evo_driver.specs.Files.{Holds, IsWrongClient}
 use Rattle.evo_driver.specs.Files.Refuses.{client_is_wrong}
 use Rattle.evo_driver.proofs.Loads.{stops_at}

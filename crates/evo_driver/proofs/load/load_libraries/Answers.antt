@@ -2,7 +2,7 @@ use Rattle.std.proofs.Common.{rules, arith, ◌≡◌, ◌<◌, ◌∙◌, refl,
 use Rattle.std.proofs.lemmas.List.{nil_from_length}
 use Rattle.std.proofs.lemmas.Result.{err_from_is_err_and}
 use Rattle.evo_driver.specs.declared.stop.Refusal.{Refusal}
-use Rattle.evo_driver.specs.declared.stop.Which.TheVariants as which
+use Rattle.evo_driver.specs.declared.stop.Input.TheVariants as which
 use Rattle.evo_driver.specs.Files.{Holds, HoldsLibrary, IsWrongLibrary}
 use Rattle.evo_driver.specs.Files.Refuses.{old_is_wrong, new_is_wrong}
 use Rattle.evo_driver.proofs.Loads.{stops_at, broken_names, keeps_of}

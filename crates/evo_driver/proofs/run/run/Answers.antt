@@ -6,7 +6,7 @@ use Rattle.evo_machine.specs.Machine.{Executes}
 use Rattle.evo_machine.specs.Runs.{MachineState}
 use Rattle.evo_build.specs.Meaning.{Ran}
 use Rattle.evo_driver.specs.Loading.{run_with}
-use Rattle.evo_driver.specs.Top.{IsNoFault, EndsAs}
+use Rattle.evo_driver.specs.Top.{IsNoFault, EndsResult}
 use Rattle.evo_driver.proofs.Runs.{executed, answered, replied, no_fault}
 use Rattle.evo_driver.proofs.run.run.Goals as goal
 
@@ -26,7 +26,7 @@ returns-in-Ok g c =
     let made : c.in_ok-machine.machine ≡ record { image = c.in_ok-image.image; finished = None } = c.in_ok-machine.ensures in
     let runs = c.in-Ok.ensures.runs (ap (λ (m : MachineState). m.finished) made) (record { out = ran.out; ending = ex.end })
     (subst (λ (fs : List Function). Executes fs c.args.ticks (record { out = ran.out; ending = ex.end })) (sym (ap (λ (m : MachineState). m.image) made)) ex.run) in
-    let reply = replied ran.out ran.ending ex.end c.in_ok-ended-in-Ok.field-0 ex.is (subst (λ (e : End). EndsAs e c.in_ok-ended-in-Ok.field-0) runs.1 c.in_ok-ended-in-Ok.ensures) in
+    let reply = replied ran.out ran.ending ex.end c.in_ok-ended-in-Ok.field-0 ex.is (subst (λ (e : End). EndsResult e c.in_ok-ended-in-Ok.field-0) runs.1 c.in_ok-ended-in-Ok.ensures) in
     (reply.0, reply.1, reply.2, subst (λ (l : List ℕ). Appends (g.O.Sink.written c.args.out.now) (g.O.Sink.written c.run.new.out) l) (sym reply.3) runs.0, runs.2)
 
 pub returns-in-Err-Write : goal.returns-in-Err-Write

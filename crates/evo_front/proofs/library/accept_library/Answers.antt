@@ -15,8 +15,8 @@ returns-in_default-clause-accepts c =
     let spells : Spells c.args.text.now (form.Library c.args.library.now) c.in-Ok.tree = subst (λ (name : List ℕ). Spells c.args.text.now (form.Library name) c.in-Ok.tree) c.in_ok-copy.ensures c.in-Ok.ensures.spelled in
     unbuilt_library c.one_module.ensures c.args.library.now c.args.text.now c.in-Ok.tree spells (rw c.in_default.is at c.in_ok-functions.ensures)
 
-pub interface_text_of-requires : goal.interface_text_of-requires
-interface_text_of-requires c =
+pub reread_interface-requires : goal.reread_interface-requires
+reread_interface-requires c =
     let found : (library_of c.in-Ok.tree ≡ Some c.in-Some.functions) × IsAcceptedLibrary c.args.library.now c.in-Some.functions = rw c.in-Some.is at c.in_ok-functions.ensures in
     let list : c.as_slice.result.now ≡ c.in-Some.functions = c.as_slice.ensures in
     rw list (readable c.args.library.now c.in-Some.functions c.requires.plain (library_fact c.in-Ok.tree c.in-Some.functions found.0))

@@ -1,7 +1,7 @@
 use Rattle.std.proofs.Common.{◌≡◌, length, ◌∙◌, ap, arith, rules}
 use Rattle.std.specs.Str.{chars, encode_utf8_all}
 use Rattle.std.proofs.lemmas.Str.{chars_from_encodes, encodes-chars}
-use Rattle.evo_lex.specs.Cut.{origin}
+use Rattle.evo_lex.specs.Tokenization.{origin}
 use Rattle.evo_lex.proofs.Spots.{bytes}
 use Rattle.evo_lex.proofs.lexer.characters.Goals as goal
 

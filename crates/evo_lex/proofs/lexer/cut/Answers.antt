@@ -1,10 +1,10 @@
 use Rattle.std.proofs.Common.{◌≡◌, ℕ, ◌+◌, ◌-◌, ◌<◌, ◌≤◌, List, [], ◌∷◌, ◌++◌, length, take, drop, Some, None, refl, sym, ◌∙◌, ap, subst, arith, rules, append_assoc, get_or, drop-cons, add-one}
 use Rattle.std.proofs.lemmas.List.{take_all, drop_all, append-nil, drop-drop, length-drop}
-use Rattle.evo_lex.specs.declared.spot.Spot.{Spot}
+use Rattle.evo_lex.specs.declared.spot.Position.{Position}
 use Rattle.evo_lex.specs.Front.{front_of}
-use Rattle.evo_lex.specs.Cut.{CutFrom, BadFrom, beyond, tokens_of, origin}
-use Rattle.evo_lex.specs.Cut.CutFrom.{ended}
-use Rattle.evo_lex.specs.Cut.BadFrom.{bad, past}
+use Rattle.evo_lex.specs.Tokenization.{CutFrom, BadFrom, beyond, tokens_of, origin}
+use Rattle.evo_lex.specs.Tokenization.CutFrom.{ended}
+use Rattle.evo_lex.specs.Tokenization.BadFrom.{bad, past}
 use Rattle.evo_lex.proofs.Cuts.{cut_on}
 use Rattle.evo_lex.proofs.Spots.{forward, split}
 use Rattle.evo_lex.proofs.lexer.cut.Goals as goal
@@ -15,7 +15,7 @@ to_end text i = take_all _ _ (omega (arith, length-drop i text))
 parts : (text : List ℕ) (i : ℕ) → i < length text → drop i text ≡ get_or text i 0 ∷ drop (i + 1) text
 parts text i lt = rw add-one (drop-cons text i 0 lt)
 
-bad_here : (rest : List ℕ) (c : ℕ) (tail : List ℕ) (s : Spot) → rest ≡ c ∷ tail → front_of rest ≡ None → BadFrom s rest s.place
+bad_here : (rest : List ℕ) (c : ℕ) (tail : List ℕ) (s : Position) → rest ≡ c ∷ tail → front_of rest ≡ None → BadFrom s rest s.place
 bad_here rest c tail s e none = rw e (bad {text = tail} (rw e at none))
 
 pub returns-in_default-clause-bad : goal.returns-in_default-clause-bad
@@ -35,7 +35,7 @@ beyond-next-requires-clause-at c =
     let len = c.in-Some.len in
     let rest = drop read text in
     let at : (beyond (take len rest) c.loop-read.spot).at ≤ (beyond (drop len rest) (beyond (take len rest) c.loop-read.spot)).at = forward (drop len rest) (beyond (take len rest) c.loop-read.spot) in
-    let whole : (beyond (drop len rest) (beyond (take len rest) c.loop-read.spot)).at ≡ (beyond text origin).at = ap (λ (s : Spot). s.at) (split len rest c.loop-read.spot ∙ sym c.loop-read.invariant.end) in
+    let whole : (beyond (drop len rest) (beyond (take len rest) c.loop-read.spot)).at ≡ (beyond text origin).at = ap (λ (s : Position). s.at) (split len rest c.loop-read.spot ∙ sym c.loop-read.invariant.end) in
     rw taken (omega (arith, at, whole))
 
 pub loop-read-preserved : goal.loop-read-preserved
@@ -56,11 +56,11 @@ loop-read-preserved c =
       column = c.beyond-next.ensures.column;
       end = c.loop-read.invariant.end ∙ sym (split len rest from) ∙ ap (beyond (drop len rest)) (sym same) ∙ ap (λ cs. beyond cs next) (sym after);
       found = λ more cut.
-          let cut' : CutFrom (beyond (take len rest) from) (drop len rest) more = subst (λ (s : Spot). CutFrom s (drop len rest) more) same (subst (λ (cs : List ℕ). CutFrom next cs more) after cut) in
+          let cut' : CutFrom (beyond (take len rest) from) (drop len rest) more = subst (λ (s : Position). CutFrom s (drop len rest) more) same (subst (λ (cs : List ℕ). CutFrom next cs more) after cut) in
           let whole = c.loop-read.invariant.found _ (cut_on some cut') in
           rw (kept, append_assoc) whole;
       bad = λ place fault.
-          let fault' : BadFrom (beyond (take len rest) from) (drop len rest) place = subst (λ (s : Spot). BadFrom s (drop len rest) place) same (subst (λ (cs : List ℕ). BadFrom next cs place) after fault) in
+          let fault' : BadFrom (beyond (take len rest) from) (drop len rest) place = subst (λ (s : Position). BadFrom s (drop len rest) place) same (subst (λ (cs : List ℕ). BadFrom next cs place) after fault) in
           c.loop-read.invariant.bad place (past some fault');
     }
 

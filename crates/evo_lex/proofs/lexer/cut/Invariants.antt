@@ -1,7 +1,7 @@
 use Rattle.std.proofs.Common.{◌≡◌, ◌+◌, ◌-◌, ◌≤◌, List, ◌++◌, length, drop}
 use Rattle.evo_base.specs.declared.place.Place.{Place}
 use Rattle.evo_base.specs.declared.token.Token.{Token}
-use Rattle.evo_lex.specs.Cut.{CutFrom, BadFrom, beyond, origin}
+use Rattle.evo_lex.specs.Tokenization.{CutFrom, BadFrom, beyond, origin}
 use Rattle.evo_lex.proofs.lexer.cut.Given as goal
 
 abbrev pub invariant-loop-read : goal.invariant-loop-read

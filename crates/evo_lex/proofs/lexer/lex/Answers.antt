@@ -7,10 +7,10 @@ use Rattle.evo_base.specs.declared.fault_kind.FaultKind.TheVariants.{BadToken}
 use Rattle.evo_base.specs.declared.fault_kind.FaultKind.TheVariants as fault_kind
 use Rattle.evo_lex.specs.declared.lexer.LexFault.{LexFault}
 use Rattle.evo_lex.specs.declared.lexer.LexFault.TheVariants as fault
-use Rattle.evo_lex.specs.declared.spot.Spot.{Spot}
+use Rattle.evo_lex.specs.declared.spot.Position.{Position}
 use Rattle.evo_lex.specs.Fault.{OnBad}
-use Rattle.evo_lex.specs.Cut.{CutFrom, BadFrom, IsFault, origin, beyond, front_chars}
-use Rattle.evo_lex.specs.Cut.IsFault.{bad_token, not_utf8}
+use Rattle.evo_lex.specs.Tokenization.{CutFrom, BadFrom, IsFault, origin, beyond, front_chars}
+use Rattle.evo_lex.specs.Tokenization.IsFault.{bad_token, not_utf8}
 use Rattle.evo_lex.proofs.Cuts.{front_whole}
 use Rattle.evo_lex.proofs.lexer.lex.Goals as goal
 
@@ -19,11 +19,11 @@ faulty text cs (fault.Bad kind place) same h =
     subst (λ (k : FaultKind). IsFault text k place) (sym h.0) (bad_token (subst (λ (cs : List ℕ). BadFrom origin cs place) same h.1))
 faulty text cs fault.Memory same h = tt
 
-undecoded : (text cs : List ℕ) (tokens : List Token) (end : Spot) → cs ≡ front_chars text → (IsUtf8 text → ⊥) → CutFrom origin cs tokens → end ≡ beyond cs origin → IsFault text fault_kind.NotUtf8 end.place
+undecoded : (text cs : List ℕ) (tokens : List Token) (end : Position) → cs ≡ front_chars text → (IsUtf8 text → ⊥) → CutFrom origin cs tokens → end ≡ beyond cs origin → IsFault text fault_kind.NotUtf8 end.place
 undecoded text cs tokens end same fails cut e =
     let cut' : CutFrom origin (front_chars text) tokens = subst (λ (cs : List ℕ). CutFrom origin cs tokens) same cut in
     let end' : end ≡ beyond (front_chars text) origin = e ∙ ap (λ (cs : List ℕ). beyond cs origin) same in
-    subst (λ (s : Spot). IsFault text fault_kind.NotUtf8 s.place) (sym end') (not_utf8 fails cut')
+    subst (λ (s : Position). IsFault text fault_kind.NotUtf8 s.place) (sym end') (not_utf8 fails cut')
 
 pub returns-in_err-tokens-clause-bad : goal.returns-in_err-tokens-clause-bad
 returns-in_err-tokens-clause-bad c =

@@ -1,5 +1,5 @@
 use Rattle.std.proofs.Common.{◌≡◌, ◌+◌, ◌≤◌, drop}
-use Rattle.evo_lex.specs.Cut.{beyond}
+use Rattle.evo_lex.specs.Tokenization.{beyond}
 use Rattle.evo_lex.proofs.spot.beyond.Given as goal
 
 abbrev pub invariant-loop-c : goal.invariant-loop-c

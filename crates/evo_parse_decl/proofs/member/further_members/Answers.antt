@@ -1,6 +1,6 @@
 use Rattle.std.proofs.Common.{◌≡◌, ℕ, ◌-◌, ◌+◌, Bool, true, List, [], ◌∷◌, ◌++◌, sym, ap, ap₂, ◌∙◌, rules}
 use Rattle.evo_combinators.specs.Guard.{run}
-use Rattle.evo_combinators.proofs.Turns.{front_one}
+use Rattle.evo_combinators.proofs.AtDepth.{front_one}
 use Rattle.evo_combinators.proofs.RunTurns.{RunAfter, run_more}
 use Rattle.evo_tree.specs.declared.declaration.Decl.{Decl}
 use Rattle.evo_tree.specs.Pieces.{Piece}

@@ -1,7 +1,7 @@
 use Rattle.std.proofs.Common.{◌≡◌, ℕ, ◌-◌, ◌+◌, List, [], ◌∷◌, ◌++◌, sym, ap, ap₂, ◌∙◌, rules}
 use Rattle.evo_base.specs.declared.place.Place.{Place}
 use Rattle.evo_combinators.specs.Reader.{many, one}
-use Rattle.evo_combinators.proofs.Turns.{After, front_one, turn_begin, turn_more}
+use Rattle.evo_combinators.proofs.AtDepth.{After, front_one, turn_begin, turn_more}
 use Rattle.evo_tree.specs.Pieces.{mark}
 use Rattle.evo_tree.specs.Types.{plain_name}
 use Rattle.evo_tree.specs.declared.terminal.Terminal.TheVariants.{Dot}

@@ -1,6 +1,6 @@
 use Rattle.std.proofs.Common.{◌≡◌, ◌-◌}
 use Rattle.evo_combinators.specs.Reader.{many, one}
-use Rattle.evo_combinators.proofs.Turns.{After}
+use Rattle.evo_combinators.proofs.AtDepth.{After}
 use Rattle.evo_tree.specs.Pieces.{mark}
 use Rattle.evo_tree.specs.Types.{plain_name}
 use Rattle.evo_tree.specs.declared.terminal.Terminal.TheVariants.{Dot}

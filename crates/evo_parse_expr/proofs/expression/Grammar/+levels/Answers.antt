@@ -1,7 +1,7 @@
 use Rattle.std.proofs.Common.{ℕ, ◌-◌, ◌+◌, List, [], sym, ap, ap₂, ◌∙◌}
 use Rattle.evo_combinators.specs.Reader.{and_then, pure}
-use Rattle.evo_combinators.proofs.Turns.{After, turn_init, turn_more}
-use Rattle.evo_parse_expr.specs.Turns.{infix_of, operands_of, turn_reader, unary_at}
+use Rattle.evo_combinators.proofs.AtDepth.{After, turn_init, turn_more}
+use Rattle.evo_parse_expr.specs.AtDepth.{infix_of, operands_of, turn_reader, unary_at}
 use Rattle.evo_parse_expr.proofs.expression.Grammar.+levels.Goals as goal
 
 pub turns-loop-turn-init : goal.turns-loop-turn-init

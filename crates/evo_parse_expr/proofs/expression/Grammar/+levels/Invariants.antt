@@ -1,7 +1,7 @@
 use Rattle.std.proofs.Common.{◌≡◌, ◌-◌, ◌+◌, ◌*◌}
 use Rattle.evo_combinators.specs.Reader.{many}
-use Rattle.evo_combinators.proofs.Turns.{After}
-use Rattle.evo_parse_expr.specs.Turns.{height, infix_of, operands_of, turn_reader, unary_at}
+use Rattle.evo_combinators.proofs.AtDepth.{After}
+use Rattle.evo_parse_expr.specs.AtDepth.{height, infix_of, operands_of, turn_reader, unary_at}
 use Rattle.evo_parse_expr.proofs.expression.Grammar.+levels.Given as goal
 
 abbrev pub decreases-operand : goal.decreases-operand

@@ -1,8 +1,8 @@
 use Rattle.std.proofs.Common.{ℕ, ◌-◌, ◌+◌, List, [], sym, ap, ap₂, ◌∙◌}
-use Rattle.evo_combinators.proofs.Turns.{After, turn_init, turn_more}
+use Rattle.evo_combinators.proofs.AtDepth.{After, turn_init, turn_more}
 use Rattle.evo_tree.specs.Pieces.{mark}
 use Rattle.evo_tree.specs.declared.terminal.Terminal.TheVariants.{Dot}
-use Rattle.evo_parse_expr.specs.Turns.{member_reader}
+use Rattle.evo_parse_expr.specs.AtDepth.{member_reader}
 use Rattle.evo_parse_expr.proofs.expression.Grammar.dotted.Goals as goal
 
 pub loop-turn-init : goal.loop-turn-init

@@ -3,7 +3,7 @@ use Rattle.evo_combinators.proofs.TriesTurns.{TriesAfter, tries_init, tries_more
 use Rattle.evo_tree.specs.declared.expression.Expr.{Expr}
 use Rattle.evo_tree.specs.declared.statement.Block.{Block}
 use Rattle.evo_tree.specs.Statements.{is_last_branch}
-use Rattle.evo_parse_stmt.specs.Turns.{else_at}
+use Rattle.evo_parse_stmt.specs.AtDepth.{else_at}
 use Rattle.evo_parse_stmt.proofs.sequence.Statements.further_branches.Goals as goal
 
 pub loop-turn-init : goal.loop-turn-init

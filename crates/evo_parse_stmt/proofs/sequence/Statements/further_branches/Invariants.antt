@@ -1,7 +1,7 @@
 use Rattle.std.proofs.Common.{◌≡◌, ◌-◌}
 use Rattle.evo_combinators.proofs.TriesTurns.{TriesAfter}
 use Rattle.evo_tree.specs.Statements.{is_last_branch}
-use Rattle.evo_parse_stmt.specs.Turns.{else_at, further_branches}
+use Rattle.evo_parse_stmt.specs.AtDepth.{else_at, further_branches}
 use Rattle.evo_parse_stmt.proofs.sequence.Statements.further_branches.Given as goal
 
 abbrev pub invariant-loop-turn : goal.invariant-loop-turn

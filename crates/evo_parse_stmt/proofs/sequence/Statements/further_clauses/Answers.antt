@@ -2,7 +2,7 @@ use Rattle.std.proofs.Common.{ℕ, ◌-◌, ◌+◌, List, Option, Ok, Bool, sym
 use Rattle.evo_combinators.proofs.TriesTurns.{TriesAfter, tries_init, tries_more}
 use Rattle.evo_tree.specs.declared.statement.Clause.{Clause}
 use Rattle.evo_tree.specs.Statements.{is_last_clause}
-use Rattle.evo_parse_stmt.specs.Turns.{clause_at}
+use Rattle.evo_parse_stmt.specs.AtDepth.{clause_at}
 use Rattle.evo_parse_stmt.proofs.sequence.Statements.further_clauses.Goals as goal
 
 pub loop-turn-init : goal.loop-turn-init

@@ -1,7 +1,7 @@
 use Rattle.std.proofs.Common.{◌≡◌, ◌-◌}
 use Rattle.evo_combinators.proofs.TriesTurns.{TriesAfter}
 use Rattle.evo_tree.specs.Statements.{is_last_clause}
-use Rattle.evo_parse_stmt.specs.Turns.{clause_at, further_clauses}
+use Rattle.evo_parse_stmt.specs.AtDepth.{clause_at, further_clauses}
 use Rattle.evo_parse_stmt.proofs.sequence.Statements.further_clauses.Given as goal
 
 abbrev pub invariant-loop-turn : goal.invariant-loop-turn

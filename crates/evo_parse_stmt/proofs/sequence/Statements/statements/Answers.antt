@@ -2,7 +2,7 @@ use Rattle.std.proofs.Common.{ℕ, ◌-◌, ◌+◌, List, Option, Ok, false, sy
 use Rattle.evo_combinators.proofs.TriesTurns.{TriesAfter, tries_init, tries_more}
 use Rattle.evo_tree.specs.declared.statement.Stmt.{Stmt}
 use Rattle.evo_tree.specs.Statements.{no_longer_first}
-use Rattle.evo_parse_stmt.specs.Turns.{statement_at}
+use Rattle.evo_parse_stmt.specs.AtDepth.{statement_at}
 use Rattle.evo_parse_stmt.proofs.sequence.Statements.statements.Goals as goal
 
 pub loop-turn-init : goal.loop-turn-init

@@ -1,7 +1,7 @@
 use Rattle.std.proofs.Common.{◌≡◌, ◌-◌}
 use Rattle.evo_combinators.proofs.TriesTurns.{TriesAfter}
 use Rattle.evo_tree.specs.Statements.{no_longer_first}
-use Rattle.evo_parse_stmt.specs.Turns.{statement_at, statements}
+use Rattle.evo_parse_stmt.specs.AtDepth.{statement_at, statements}
 use Rattle.evo_parse_stmt.proofs.sequence.Statements.statements.Given as goal
 
 abbrev pub invariant-loop-turn : goal.invariant-loop-turn

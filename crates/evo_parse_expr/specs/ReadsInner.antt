@@ -13,7 +13,7 @@ abbrev pub expr_of : ℕ → Bool → Reader Expr
 expr_of d true = expr d
 expr_of d false = unary d
 
-pub record Nests (limit : ℕ) (pre : Global → MutBor (List Piece) → ℕ → Bool → Type 0)
+pub record ReadsInner (limit : ℕ) (pre : Global → MutBor (List Piece) → ℕ → Bool → Type 0)
     (post : Global → MutBor (List Piece) → ℕ → Bool → Result Expr ReadError → MutBor (List Piece) → Type 0) : Type 0 where
   pub callable : (alloc : Global) (old : MutBor (List Piece)) (d : ℕ) (whole : Bool) → d < limit → pre alloc old d whole
   pub reads : (alloc : Global) (old new : MutBor (List Piece)) (d : ℕ) (whole : Bool) (r : Result Expr ReadError) →

@@ -8,7 +8,7 @@ use Rattle.evo_tree.specs.declared.statement.Stmt.{Stmt}
 use Rattle.evo_tree.specs.Pieces.{Piece}
 use Rattle.evo_parse_stmt.specs.Read.{stmt}
 
-pub record Nests (limit : ℕ) (pre : Global → MutBor (List Piece) → ℕ → Bool → Type 0)
+pub record ReadsInner (limit : ℕ) (pre : Global → MutBor (List Piece) → ℕ → Bool → Type 0)
     (post : Global → MutBor (List Piece) → ℕ → Bool → Result Stmt ReadError → MutBor (List Piece) → Type 0) : Type 0 where
   pub callable : (alloc : Global) (old : MutBor (List Piece)) (d : ℕ) (inits : Bool) → d < limit → pre alloc old d inits
   pub reads : (alloc : Global) (old new : MutBor (List Piece)) (d : ℕ) (inits : Bool) (r : Result Stmt ReadError) →

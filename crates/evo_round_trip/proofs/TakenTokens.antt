@@ -25,7 +25,7 @@ use Rattle.evo_tree.specs.Pieces.{Piece, placed, sign_of, is_terminal, is_identi
 use Rattle.evo_tree.specs.Bare.{origin, bare_identifier}
 use Rattle.evo_tree.specs.Canonical.{prefix_text, infix_text}
 use Rattle.evo_round_trip.proofs.Written.{Written, is_gap, IsToken}
-use Rattle.evo_round_trip.proofs.Matching.{Like, IsName}
+use Rattle.evo_round_trip.proofs.Matching.{SameLookahead, IsName}
 use Rattle.evo_round_trip.proofs.Printed.{Fitted}
 use Rattle.evo_round_trip.proofs.Prints.{Takes, Taken}
 use Rattle.evo_parse_expr.proofs.Tests.{when_some, and_both, both_and, number_is, is_same, mark_is, identifier_is}
@@ -36,7 +36,7 @@ use Rattle.evo_round_trip.proofs.TokensOfStrings.{string_is_token}
 use Rattle.evo_round_trip.proofs.TokensOfEscapes.{string_value_is}
 use Rattle.evo_round_trip.proofs.Spellings.{sign, named, numeral, quoted}
 
-pub like_of : (firm : Bool) (m : Piece) (w : Written) → Fitted firm m w → Like m w
+pub like_of : (firm : Bool) (m : Piece) (w : Written) → Fitted firm m w → SameLookahead m w
 like_of true m w f = f.0
 like_of false m w f = f
 

@@ -3,7 +3,7 @@ use Rattle.evo_first_form.specs.Interface.{interface_of}
 use Rattle.evo_iface.specs.Text.{interface_text}
 use Rattle.evo_front.specs.Texts.{interface_limit}
 use Rattle.evo_front.proofs.Within.{within}
-use Rattle.evo_front.proofs.library.interface_text_of.Goals as goal
+use Rattle.evo_front.proofs.library.reread_interface.Goals as goal
 
 pub returns : goal.returns
 returns c =

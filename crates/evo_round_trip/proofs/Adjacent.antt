@@ -5,7 +5,7 @@ use Rattle.std.specs.List.{list_all}
 use Rattle.std.specs.Str.{bytes_eq}
 use Rattle.evo_base.specs.declared.token.TokenKind.{TokenKind}
 use Rattle.evo_base.specs.declared.token.TokenKind.TheVariants as kind
-use Rattle.evo_combinators.specs.Rule.{Only, Led, Then, Many}
+use Rattle.evo_combinators.specs.Rule.{Empty, TokenThen, Then, Many}
 use Rattle.evo_tree.specs.declared.terminal.Role.{Role}
 use Rattle.evo_tree.specs.declared.terminal.Role.TheVariants as role
 use Rattle.evo_tree.specs.declared.terminal.Terminal.{Terminal}
@@ -16,7 +16,7 @@ use Rattle.evo_tree.specs.Expressions.{Rule}
 use Rattle.evo_tree.specs.Bare.{origin}
 use Rattle.evo_tree.specs.Declarations.{Separated}
 use Rattle.evo_round_trip.proofs.Written.{Written, Sound, joined, breaks, is_none, is_wordy, is_operator_kind, is_mark, is_unattached, parts_from, keeps_role, leads}
-use Rattle.evo_round_trip.proofs.Matching.{Fits, All_fit, Has, Genuine}
+use Rattle.evo_round_trip.proofs.Matching.{Fits, AllFit, Has, FromText}
 use Rattle.evo_round_trip.proofs.Printed.{Text, any, any_begins, begins, begins_within, begins_left, begins_append, is_free, Matched, all_matched, firm_parts, genuine_left, genuine_right, joined_append}
 use Rattle.evo_round_trip.proofs.Prints.{Prints, Alone, Both}
 use Rattle.evo_round_trip.proofs.Heads.{is_calm, and_left, and_right, both_true, or_right, given_calm}
@@ -123,14 +123,14 @@ then_ends S R h k us b (a, vs, ws, at, s, r) e = ap (ends e) at ∙ ends_append 
 pub then_keeps : {A B : Type 0} (S : Rule A) (R : A → Rule B) → Keeps S → ((a : A) → Keeps (R a)) → Keeps (Then S R)
 then_keeps S R h k us b (a, vs, ws, at, s, r) = ap (ends true) at ∙ ends_append true vs ws ∙ ap (λ z. ends z ws) (h vs a s) ∙ k a ws b r
 
-pub only_keeps : {B : Type 0} (x : B) → Keeps (Only x)
+pub only_keeps : {B : Type 0} (x : B) → Keeps (Empty x)
 only_keeps x us b (at, is) = ap (ends true) at
 
-pub led_ends : {A B : Type 0} (f : Piece → Option A) (S : A → Rule B) → ((a : A) → Ends (S a)) → Ends (Led f S)
+pub led_ends : {A B : Type 0} (f : Piece → Option A) (S : A → Rule B) → ((a : A) → Ends (S a)) → Ends (TokenThen f S)
 led_ends f S h us b (u, a, vs, at, takes, s) e = ap (ends e) at ∙ h a vs b s (is_head_piece u)
 
 -- a name, and what follows it
-pub name_ends : {A B : Type 0} (f : Piece → Option A) (S : A → Rule B) → ((u : Piece) (a : A) → f u ≡ Some a → is_head_piece u ≡ true) → ((a : A) → Keeps (S a)) → Ends (Led f S)
+pub name_ends : {A B : Type 0} (f : Piece → Option A) (S : A → Rule B) → ((u : Piece) (a : A) → f u ≡ Some a → is_head_piece u ≡ true) → ((a : A) → Keeps (S a)) → Ends (TokenThen f S)
 name_ends f S h k us b (u, a, vs, at, takes, s) e = ap (ends e) at ∙ ap (λ z. ends z vs) (h u a takes) ∙ k a vs b s
 
 pub many_keeps : {A B : Type 0} (f : Piece → Option A) (S : A → Rule B) → ((a : A) → Ends (S a)) → Keeps (Many f S)
@@ -158,7 +158,7 @@ as_fits w = (record { terminal = refl; text = refl; role = has w.role }, refl)
 as_matched : (firm : Bool) (ws : List Written) → Matched firm (map as_piece ws) ws
 as_matched firm ws = all_matched firm (map as_piece ws) ws (go ws)
   where
-    go : (ws : List Written) → All_fit (map as_piece ws) ws
+    go : (ws : List Written) → AllFit (map as_piece ws) ws
     go [] = tt
     go (w ∷ ws) = (as_fits w, go ws)
 
@@ -194,17 +194,17 @@ as_lasts e e' (w ∷ ws) h k = as_lasts (is_head_piece (as_piece w)) (is_wordy w
 -- ---- one after the other
 
 module _ {A B C : Type 0} {firm : Bool} {g : Piece → Bool} {e : Bool} {p : Written → Bool} {before : Text → Text} {out : B → Text} {Near : A → Type 0} {Same : B → B → Type 0}
-    {outs : C → Text} {Like : C → C → Type 0} {p' q : Written → Bool} {S S' : Rule C} {R : C → Rule B} {R' : A → C → Rule B} where
+    {outs : C → Text} {SameLookahead : C → C → Type 0} {p' q : Written → Bool} {S S' : Rule C} {R : C → Rule B} {R' : A → C → Rule B} where
   -- what is written directly behind something that ends in a name
-  pub print_snug : {e' : Bool} → Prints {A = Unit {0}} firm g false p' (λ z. z) outs Alone Like S (λ a. S') → Ends S' → ((w : Written) → p' w ≡ true → p w ≡ true) → ((w : Written) → q w ≡ true → is_snug w ≡ true) →
-      ((c : C) → Prints true any e' q (λ z. before (outs c ++ z)) out (Both Near Like c) Same (R c) (λ x. R' x.0 x.1)) →
+  pub print_snug : {e' : Bool} → Prints {A = Unit {0}} firm g false p' (λ z. z) outs Alone SameLookahead S (λ a. S') → Ends S' → ((w : Written) → p' w ≡ true → p w ≡ true) → ((w : Written) → q w ≡ true → is_snug w ≡ true) →
+      ((c : C) → Prints true any e' q (λ z. before (outs c ++ z)) out (Both Near SameLookahead c) Same (R c) (λ x. R' x.0 x.1)) →
       Prints firm g e p before out Near Same (Then S R) (λ a. Then S' (R' a))
   print_snug {e'} cs last h k cr = record { holds = go }
     where
-      go : (us : List Piece) (b : B) → Genuine us → begins true g us ≡ true → Then S R us b →
+      go : (us : List Piece) (b : B) → FromText us → begins true g us ≡ true → Then S R us b →
           (ws : List Written) × (before (joined ws) ≡ out b) × Sound ws × (begins e p ws ≡ true) × ((a : A) → Near a → (ms : List Piece) → Matched firm ms ws → (b' : B) × Then S' (R' a) ms b' × Same b b')
       go us b gen fst (c, vs, ws, at, s, r) =
-          let gen' : Genuine (vs ++ ws) = subst Genuine at gen in
+          let gen' : FromText (vs ++ ws) = subst FromText at gen in
           let (xs, written, sound, begun, make) = cs.holds vs c (genuine_left vs ws gen') (begins_left g vs ws (subst (λ z. begins true g z ≡ true) at fst)) s in
           let (ys, written', sound', begun', make') = (cr c).holds ws b (genuine_right vs ws gen') (any_begins ws) r in
           let (c', s', like) = make tt tt (map as_piece xs) (as_matched firm xs) in (
