@@ -3,7 +3,7 @@ use Rattle.std.proofs.Common.{◌≡◌, ◌≢◌, ℕ, Bool, true, false, List
 use Rattle.std.specs.Option.{option_map}
 use Rattle.std.specs.Str.{bytes_eq}
 use Rattle.std.proofs.lemmas.Slice.Eq.{bytes_eq-Decides}
-use Rattle.evo_base.specs.FilesState.{StoredFile, put_entry, bytes_of, room_of, PutsTo}
+use Rattle.evo_base.specs.MemFilesState.{StoredFile, put_entry, bytes_of, room_of, PutsTo}
 
 same : (name bytes : List ℕ) (es : List StoredFile) → bytes_of name (put_entry name bytes es) ≡ option_map (λ (had : List ℕ). bytes) (bytes_of name es)
 same name bytes [] = refl

@@ -1,10 +1,10 @@
 pub mod Causes
 pub mod Content
+pub mod FailurePlan
 pub mod FaultText
-pub mod FilesState
 pub mod Keywords
 pub mod Laws
+pub mod MemFilesState
+pub mod MemSinkState
 pub mod Names
-pub mod FailurePlan
-pub mod SinkState
-pub mod Tokens
+pub mod States

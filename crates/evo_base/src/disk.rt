@@ -1,6 +1,8 @@
 //! The edge: real files and streams. They tell no content, and count their faults.
 
-ghost use Rattle.std.specs.Prelude.{ℕ, ◌≡◌, ◌+◌, ◌^◌, ◌-◌, ◌<◌, false};
+ghost use Rattle.std.specs.Prelude.{ℕ, ◌≡◌, ◌≤◌, false, length, vec_len, IfOk, is_err};
+ghost use Rattle.evo_base.specs.Causes.{HasCause};
+ghost use Rattle.evo_base.specs.Content.{HandsOn, Writes};
 
 use crate::{Failed, Files, GetFault, Name, Sink};
 use std::alloc::Global;
@@ -51,44 +53,53 @@ impl<W: Write + Drop> StdSink<W> {
     }
 }
 
+// The first bytes of a file, at most so many.
 fn read_front<R: rt::Files>(
     system: &R,
     alloc: Global,
     name: &str,
-    limit: u64,
+    most: usize,
 ) -> io::Result<Vec<u8>>
-    requires { limit < 2 ^ 64 - 1 }
+    ensures { IfOk result (λ bytes. vec_len bytes ≤ most) }
 {
     let mut bytes = Vec::new(alloc);
     fs::open(system, name)?
-        .take(limit + 1)
+        .take(most as u64)
         .read_to_end(&mut bytes)?;
+    bytes.truncate(most);
     Ok(bytes)
 }
 
-fn path_of(name: &Name) -> &str {
-    match str::from_utf8(name.as_slice()) {
-        Ok(path) => path,
-        Err(_) => unreachable!(),
+// Hands a piece on, and flushes it. A writer that fails has a prefix of it.
+fn hand_on<W: Write>(stream: &mut W, piece: &[u8]) -> Result<(), Failed>
+    ensures { HandsOn (W.contents stream.old) (W.contents stream.new) piece.now result }
+{
+    let mut at = 0;
+    for _turn in 0..u64::MAX {
+        if at == piece.len() {
+            return match stream.flush() {
+                Ok(()) => Ok(()),
+                Err(_) => Err(Failed {}),
+            };
+        }
+        match stream.write(&piece[at..]) {
+            Ok(0) => return Err(Failed {}),
+            Ok(n) => at += n,
+            Err(e) if e.kind() == ErrorKind::Interrupted => {}
+            Err(_) => return Err(Failed {}),
+        }
     }
+    Err(Failed {})
 }
 
 impl<'a, R: rt::Files> Files for DiskFiles<'a, R> {
     ghost use Rattle.std.specs.Prelude.{None};
 
-    ghost held = { λ _ _. None };
-
-    ghost faults = { λ d. d.faults };
-
-    ghost failed = { λ d. d.failed };
-
-    ghost gets = { λ _ _. ⊥ };
-
-    ghost puts = { λ _ _ _. ⊥ };
+    ghost state = { λ d. record { held = λ _. None; faults = d.faults; failed = d.failed; gets = λ _. ⊥; puts = λ _ _. ⊥ } };
 
     fn get(&mut self, alloc: Global, name: &Name, limit: u64) -> Result<Vec<u8>, GetFault> {
         self.failed = false;
-        match read_front(self.system, alloc, path_of(name), limit) {
+        match read_front(self.system, alloc, name.as_str(), limit as usize + 1) {
             Ok(bytes) => Ok(bytes),
             Err(e) if e.kind() == ErrorKind::OutOfMemory => Err(GetFault::Memory),
             Err(_) => {
@@ -101,7 +112,7 @@ impl<'a, R: rt::Files> Files for DiskFiles<'a, R> {
 
     fn put(&mut self, name: &Name, bytes: &[u8]) -> Result<(), Failed> {
         self.failed = false;
-        match fs::write(self.system, path_of(name), bytes) {
+        match fs::write(self.system, name.as_str(), bytes) {
             Ok(()) => Ok(()),
             Err(_) => {
                 self.faults = self.faults.saturating_add(1);
@@ -117,28 +128,22 @@ impl<'a, R: rt::Files> Files for DiskFiles<'a, R> {
 impl<W: Write + Drop> Sink for StdSink<W> {
     ghost use Rattle.std.specs.Prelude.{None};
 
-    ghost written = { λ _. None };
+    ghost state = { λ s. record { written = None; faults = s.faults; failed = s.failed; takes = λ _. ⊥ } };
 
-    ghost faults = { λ s. s.faults };
-
-    ghost failed = { λ s. s.failed };
-
-    ghost takes = { λ _ _. ⊥ };
-
-    fn write(&mut self, piece: &[u8]) -> Result<(), Failed> {
-        self.failed = false;
-        match self
-            .stream
-            .write_all(piece)
-            .and_then(|_| self.stream.flush())
-        {
-            Ok(()) => Ok(()),
-            Err(_) => {
-                self.faults = self.faults.saturating_add(1);
-                self.failed = true;
-                Err(Failed {})
-            }
+    fn write(&mut self, piece: &[u8]) -> Result<(), Failed>
+        ensures content { Writes None None piece.now result }
+        ensures failed { self.new.failed ≡ is_err result }
+        ensures cause { HasCause self.old.faults self.new.faults ⊥ result }
+        ensures takes { (n : ℕ) → length piece.now ≤ n → ⊥ → ⊥ }
+        // A stream that tells what it holds has got exactly the piece, or a prefix of it where that failed.
+        ensures hands_on { HandsOn (W.contents self.old.stream) (W.contents self.new.stream) piece.now result }
+    {
+        let handed = hand_on(&mut self.stream, piece);
+        self.failed = handed.is_err();
+        if self.failed {
+            self.faults = self.faults.saturating_add(1);
         }
+        handed
     }
 
     ghost takes_fewer = { λ _ _ _ _ takes. takes };

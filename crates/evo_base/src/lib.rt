@@ -1,4 +1,9 @@
-//! Names, keys, lists, places, tokens and kinds of fault; files and sinks.
+//! What all crates share: names, keys, lists, places, tokens and kinds of fault; and files and sinks.
+//!
+//! Files and sinks are traits, whose state contracts see as one record (`specs/States`); what a call may do to it
+//! stand in `specs/Content` and `specs/Causes`. The fakes in memory keep them and say which call fails
+//! (`specs/MemFilesState`, `specs/MemSinkState`); the edge over the system (`disk.rt`) tells no content.
+//! Below stands the kit alone; all other crates stand above.
 #![tactic(auto)]
 
 mod disk;

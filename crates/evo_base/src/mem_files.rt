@@ -1,8 +1,9 @@
 ghost use Rattle.std.specs.Prelude.{◌≡◌, ◌≢◌, ℕ, List, [], ◌∷◌, ◌++◌, IfOk, OnOk, OnErr, length, take, ◌≤◌, ◌+◌, ◌-◌, ◌<◌, ◌^◌, MatchBool, is_err, false};
 ghost use Rattle.std.specs.Option.{IsSomeAnd};
 ghost use Rattle.evo_base.specs.Causes.{GetCause, HasCause, get_failed};
-ghost use Rattle.evo_base.specs.Content.{IsFront, Puts};
-ghost use Rattle.evo_base.specs.FilesState.{add_entry, room_of, has_room, PutsTo};
+ghost use Rattle.evo_base.specs.Content.{ReadsUpTo, Puts};
+ghost use Rattle.evo_base.specs.MemFilesState.{add_entry, room_of, has_room, PutsTo};
+ghost use Rattle.evo_base.specs.States.{HoldSame, StaySure};
 
 use crate::entry::{Entry, place_of};
 use crate::plan::FailurePlan;
@@ -20,16 +21,16 @@ pub struct MemFiles {
 }
 
 impl Model for MemFiles {
-    ghost use Rattle.evo_base.specs.FilesState.{FilesState};
+    ghost use Rattle.evo_base.specs.MemFilesState.{MemFilesState};
 
-    ghost Value = { FilesState };
+    ghost Value = { MemFilesState };
 
     ghost view = { λ f. record { entries = f.entries.items; plan = f.plan; faults = f.faults; failed = f.failed } };
 }
 
 impl MemFiles {
     ghost use Rattle.std.specs.Option.{option_map};
-    ghost use Rattle.evo_base.specs.FilesState.{held_of};
+    ghost use Rattle.evo_base.specs.MemFilesState.{held_of};
 
     /// No name is prepared, and no call is to fail.
     pub fn new(alloc: Global) -> Result<MemFiles, AllocError>
@@ -111,27 +112,18 @@ fn front(alloc: Global, bytes: &[u8], limit: u64) -> Result<Vec<u8>, AllocError>
 }
 
 impl Files for MemFiles {
-    ghost use Rattle.evo_base.specs.FilesState.{held_of, Gets, Takes, get_fails, after_get, put_fails, after_put};
+    ghost use Rattle.evo_base.specs.MemFilesState.{files_state, held_of, Gets, Takes, get_fails, after_get, put_fails, after_put};
     ghost use Rattle.evo_base.specs.Laws.{files_take_fewer};
 
-    ghost held = { held_of };
-
-    ghost faults = { λ f. f.faults };
-
-    ghost failed = { λ f. f.failed };
-
-    ghost gets = { Gets };
-
-    ghost puts = { Takes };
+    ghost state = { files_state };
 
     fn get(&mut self, alloc: Global, name: &Name, limit: u64) -> Result<Vec<u8>, GetFault>
         requires { limit < 2 ^ 64 - 1 }
-        ensures bytes { IfOk result (λ v. IsFront (held_of self.old name.now) (limit + 1) v.items) }
-        ensures same { (other : List ℕ) → held_of self.new other ≡ held_of self.old other }
+        ensures bytes { IfOk result (λ v. ReadsUpTo (held_of self.old name.now) (limit + 1) v.items) }
+        ensures same { HoldSame (files_state self.old) (files_state self.new) }
         ensures failed { self.new.failed ≡ get_failed result }
         ensures cause { GetCause self.old.faults self.new.faults (Gets self.old name.now) result }
-        ensures gets { (other : List ℕ) → Gets self.old other → Gets self.new other }
-        ensures puts { (other : List ℕ) (n : ℕ) → Takes self.old other n → Takes self.new other n }
+        ensures sure { StaySure (files_state self.old) (files_state self.new) }
 
         // Which calls fail, and what is left of the files, also where memory is wanting.
         ensures after { self.new ≡ after_get self.old name.now }
@@ -155,8 +147,7 @@ impl Files for MemFiles {
         ensures others { (other : List ℕ) → other ≢ name.now → held_of self.new other ≡ held_of self.old other }
         ensures failed { self.new.failed ≡ is_err result }
         ensures cause { HasCause self.old.faults self.new.faults (Takes self.old name.now (length bytes.now)) result }
-        ensures gets { (other : List ℕ) → Gets self.old other → Gets self.new other }
-        ensures puts { (other : List ℕ) (n : ℕ) → Takes self.old other n → Takes self.new other n }
+        ensures sure { StaySure (files_state self.old) (files_state self.new) }
 
         // Which calls fail, and what they keep.
         ensures after { self.new ≡ after_put self.old name.now bytes.now }

@@ -19,9 +19,9 @@ pub struct MemSink {
 
 impl Model for MemSink {
     ghost use Rattle.std.specs.Prelude.{vec_len, vec_capacity, ◌≤◌};
-    ghost use Rattle.evo_base.specs.SinkState.{SinkState};
+    ghost use Rattle.evo_base.specs.MemSinkState.{MemSinkState};
 
-    ghost Value = { SinkState };
+    ghost Value = { MemSinkState };
 
     ghost view = { λ s. record { bytes = s.bytes.items; room = s.room; plan = s.plan; faults = s.faults; failed = s.failed } };
 
@@ -29,7 +29,7 @@ impl Model for MemSink {
 }
 
 impl MemSink {
-    ghost use Rattle.evo_base.specs.SinkState.{SinkState};
+    ghost use Rattle.evo_base.specs.MemSinkState.{MemSinkState};
     ghost use Rattle.std.specs.Prelude.{◌∷◌, ◌++◌};
 
     /// An empty sink with room for `room` bytes, which it takes at once.
@@ -72,16 +72,10 @@ fn append(bytes: &mut Vec<u8>, piece: &[u8])
 
 impl Sink for MemSink {
     ghost use Rattle.std.specs.Prelude.{Some};
-    ghost use Rattle.evo_base.specs.SinkState.{Takes, after_write, fails_at};
+    ghost use Rattle.evo_base.specs.MemSinkState.{sink_state, Takes, after_write, fails_at};
     ghost use Rattle.evo_base.specs.Laws.{sink_takes_fewer};
 
-    ghost written = { λ s. Some s.bytes };
-
-    ghost faults = { λ s. s.faults };
-
-    ghost failed = { λ s. s.failed };
-
-    ghost takes = { Takes };
+    ghost state = { sink_state };
 
     fn write(&mut self, piece: &[u8]) -> Result<(), Failed>
         ensures content { Writes (Some self.old.bytes) (Some self.new.bytes) piece.now result }

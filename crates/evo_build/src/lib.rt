@@ -1,5 +1,9 @@
-//! Objects of the first form, and their linking: a library's functions, a client's copies and its top
-//! level, and the image that both make.
+//! Objects of the first form, and their linking.
+//!
+//! `build_library` and `build_client` make objects, `link` the image of two. `specs/Meaning` says what a client's source
+//! does, `specs/Works` that the image of an old client's object and a new library's object does the same, and
+//! `specs/Linking` what linking answers. Copies (`evo_copies`) and images (`evo_machine`) stand below; the top call in
+//! `evo_driver` stands above.
 #![tactic(auto)]
 
 mod client;

@@ -15,7 +15,7 @@ use std::alloc::{AllocError, AllocFailed, Global};
 pub enum LinkFault {
     /// A symbol that is defined twice, in one object or in both.
     Twice(Symbol),
-    /// A symbol that is needed and that neither object defines.
+    /// A symbol that is needed and that the other object does not export.
     Missing(Symbol),
     /// No memory was left.
     Memory,

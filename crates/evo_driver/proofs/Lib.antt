@@ -4,3 +4,4 @@ pub mod Filters
 pub mod Loads
 pub mod Built
 pub mod Written
+pub mod OneAnswer

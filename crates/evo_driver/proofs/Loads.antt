@@ -1,5 +1,6 @@
 -- What a file that is not loaded says of the job.
-use Rattle.std.proofs.Common.{◌≡◌, ℕ, List, [], Bool, Option, sym, ◌∙◌, ap, subst}
+use Rattle.std.proofs.Common.{◌≡◌, ℕ, List, [], Option, sym, ◌∙◌, ap, subst}
+use Rattle.evo_base.specs.States.{FilesState}
 use Rattle.evo_first_form.specs.declared.Interface.{Interface}
 use Rattle.evo_first_form.specs.declared.Function.{Function}
 use Rattle.evo_first_form.specs.Interface.{interface_of}
@@ -28,12 +29,12 @@ no_client held interface (refusal.Source fault) h = absurd h
 no_client held interface refusal.InterfaceTooLong h = absurd h
 
 -- why a text is not had is why what it is to be is not had
-pub lacks_as : (wrong more : Refusal → Type 0) (sure : Type 0) (at : Input) (before now : ℕ) (failed : Bool) → ((why : Refusal) → wrong why → more why)
-    → (e : LoadError) → LacksFile wrong sure at before now failed e → LacksFile more sure at before now failed e
-lacks_as wrong more sure at before now failed so (stop.Refused which why) r = (r.0, r.1, so why r.2)
-lacks_as wrong more sure at before now failed so (stop.NotRead which) r = r
-lacks_as wrong more sure at before now failed so (stop.Broken names) r = r
-lacks_as wrong more sure at before now failed so stop.Memory r = r
+pub lacks_as : (wrong more : Refusal → Type 0) (name : List ℕ) (at : Input) (old new : FilesState) → ((why : Refusal) → wrong why → more why)
+    → (e : LoadError) → LacksFile wrong name at old new e → LacksFile more name at old new e
+lacks_as wrong more name at old new so (stop.Refused which why) r = (r.0, r.1, so why r.2)
+lacks_as wrong more name at old new so (stop.NotRead which) r = r
+lacks_as wrong more name at old new so (stop.Broken names) r = r
+lacks_as wrong more name at old new so stop.Memory r = r
 
 -- rules over equal interfaces
 pub keeps_of : (i j i' j' : Interface) → i ≡ i' → j ≡ j' → BreaksNoRule i j → BreaksNoRule i' j'
@@ -47,13 +48,13 @@ broken_names held job old new i j names both p q are some =
     record { old = old; new = new; breaks = record { both = both; broken = λ none. some (is ∙ none) }; names_are = is }
 
 -- why a file is not had is why the job's files are not run, where the job comes to this file
-pub stops_at : (wrong : Refusal → Type 0) (sure : Type 0) (held : List ℕ → Option (List ℕ)) (gets : List ℕ → Type 0) (job : Job) (at : Input) (before mid now : ℕ) (failed : Bool)
-    → mid ≡ before → Reaches held job at → (gets (name_of job at) → sure) → ((why : Refusal) → wrong why → Refuses held job at why)
-    → (e : LoadError) → LacksFile wrong sure at mid now failed e → Stops held gets job before now failed e
-stops_at wrong sure held gets job at before mid now failed stands reaches grows refuses (stop.Refused which why) r = (r.0 ∙ stands, subst (λ (w : Input). Refuses held job w why) (sym r.1) (refuses why r.2))
-stops_at wrong sure held gets job at before mid now failed stands reaches grows refuses (stop.NotRead which) r = (rw (← stands) r.0, r.1, subst (Reaches held job) (sym r.2) reaches, λ h. r.3 (grows (subst (λ (w : Input). gets (name_of job w)) r.2 h)))
-stops_at wrong sure held gets job at before mid now failed stands reaches grows refuses (stop.Broken names) r = absurd r
-stops_at wrong sure held gets job at before mid now failed stands reaches grows refuses stop.Memory r = r ∙ stands
+pub stops_at : (wrong : Refusal → Type 0) (job : Job) (at : Input) (old mid new : FilesState)
+    → mid.faults ≡ old.faults → Reaches old.held job at → (old.gets (name_of job at) → mid.gets (name_of job at)) → ((why : Refusal) → wrong why → Refuses old.held job at why)
+    → (e : LoadError) → LacksFile wrong (name_of job at) at mid new e → Stops job old new e
+stops_at wrong job at old mid new stands reaches grows refuses (stop.Refused which why) r = (r.0 ∙ stands, subst (λ (w : Input). Refuses old.held job w why) (sym r.1) (refuses why r.2))
+stops_at wrong job at old mid new stands reaches grows refuses (stop.NotRead which) r = (rw (← stands) r.0, r.1, subst (Reaches old.held job) (sym r.2) reaches, λ h. r.3 (grows (subst (λ (w : Input). old.gets (name_of job w)) r.2 h)))
+stops_at wrong job at old mid new stands reaches grows refuses (stop.Broken names) r = absurd r
+stops_at wrong job at old mid new stands reaches grows refuses stop.Memory r = r ∙ stands
 
 -- the answer where names were removed
 pub answers_broken : (words : List (List ℕ)) (held : List ℕ → Option (List ℕ)) (job : Job) (names listed : List (List ℕ)) → IsEvolve words job → LacksNames held job names → listed ≡ names

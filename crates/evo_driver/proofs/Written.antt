@@ -1,5 +1,6 @@
 -- No answer of a job has the status of a failed write.
-use Rattle.std.proofs.Common.{◌≡◌, ℕ, List, Bool, Option, sym, ◌∙◌, ap, inl, inr}
+use Rattle.std.proofs.Common.{◌≡◌, ℕ, List, Option, sym, ◌∙◌, ap, inl, inr}
+use Rattle.evo_base.specs.States.{FilesState}
 use Rattle.evo_build.specs.Meaning.{Ending, done, spent, stuck}
 use Rattle.evo_driver.specs.declared.status.Status.TheVariants as status
 use Rattle.evo_driver.specs.declared.stop.Refusal.TheVariants as refusal
@@ -20,6 +21,6 @@ answers_written words held a (refused job at refusal.InterfaceTooLong is why) w 
 answers_written words held a (broken job old new is breaks) w = absurd cc
 answers_written words held a (ran job old new client b is accepts ends) w = run_written _ _ b ends w
 
-pub means_written : (words : List (List ℕ)) (held : List ℕ → Option (List ℕ)) (gets : List ℕ → Type 0) (before now : ℕ) (failed : Bool) (a : Answer) → Means words held gets before now failed a → a.status ≡ status.NotWritten → ⊥
-means_written words held gets before now failed a (inl h) w = answers_written words held a h.0 w
-means_written words held gets before now failed a (inr h) w = absurd (let k = sym w ∙ ap (λ (b : Answer). b.status) h.0.is in cc)
+pub means_written : (words : List (List ℕ)) (old new : FilesState) (a : Answer) → Means words old new a → a.status ≡ status.NotWritten → ⊥
+means_written words old new a (inl h) w = answers_written words old.held a h.0 w
+means_written words old new a (inr h) w = absurd (let k = sym w ∙ ap (λ (b : Answer). b.status) h.0.is in cc)

@@ -2,6 +2,7 @@
 use Rattle.std.specs.Prelude.{◌≡◌, ℕ, List, [], ◌∷◌, ◌++◌, codes, Option}
 use Rattle.std.specs.Fmt.{decimal}
 use Rattle.evo_base.specs.FaultText.{text_of}
+use Rattle.evo_base.specs.States.{FilesState}
 use Rattle.evo_tree.specs.declared.module.SourceFault.{SourceFault}
 use Rattle.evo_first_form.specs.declared.Function.{Function}
 use Rattle.evo_first_form.specs.declared.Client.{Client}
@@ -59,10 +60,10 @@ pub data Answers (words : List (List ℕ)) (held : List ℕ → Option (List ℕ
   ran : (job : Job) (old new : List Function) (client : Client) (a : Answer) → IsEvolve words job → Accepts held job old new client → AnswersRun (run_of (record { old = (interface_of job.library old).functions; new = new }) client.prints job.ticks) a → Answers words held a
 
 -- what is written where a file is not read
-pub record Unread (words : List (List ℕ)) (held : List ℕ → Option (List ℕ)) (gets : List ℕ → Type 0) (a : Answer) : Type 0 where
+pub record Unread (words : List (List ℕ)) (files : FilesState) (a : Answer) : Type 0 where
   pub job : Job
   pub at : Input
   pub asks : IsEvolve words job
-  pub reaches : Reaches held job at
-  pub may_fail : gets (name_of job at) → ⊥
+  pub reaches : Reaches files.held job at
+  pub may_fail : files.gets (name_of job at) → ⊥
   pub is : a ≡ unread_answer (name_of job at)

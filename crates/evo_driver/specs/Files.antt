@@ -1,6 +1,6 @@
 -- What a job finds in its files, in the order in which it reads them.
 use Rattle.std.specs.Prelude.{◌≡◌, ◌⊎◌, ℕ, ◌+◌, ◌<◌, ◌≤◌, List, length, Option}
-use Rattle.evo_base.specs.Content.{IsFront}
+use Rattle.evo_base.specs.Content.{ReadsUpTo}
 use Rattle.evo_base.specs.declared.fault_kind.FaultKind.TheVariants as kind
 use Rattle.evo_tree.specs.declared.module.Form.TheVariants as form
 use Rattle.evo_tree.specs.declared.module.SourceFault.{SourceFault}
@@ -20,7 +20,7 @@ use Rattle.evo_driver.specs.declared.stop.Refusal.TheVariants as refusal
 
 -- A file's text, where the file tells it, is such a text. So much of a longer file is read that it is seen to be too long.
 abbrev pub Holds : Option (List ℕ) → (List ℕ → Type 0) → Type 0
-Holds held is = (text : List ℕ) × IsFront held (file_limit + 1) text × is text
+Holds held is = (text : List ℕ) × ReadsUpTo held (file_limit + 1) text × is text
 
 -- a text that is the library of this name with these functions, where neither it nor its interface is too long
 pub record IsShortLibrary (library text : List ℕ) (functions : List Function) : Type 0 where

@@ -3,3 +3,4 @@ pub mod Files
 pub mod Loading
 pub mod Answer
 pub mod Top
+pub mod Laws

@@ -1,7 +1,8 @@
 -- What loading the files of a job answers.
-use Rattle.std.specs.Prelude.{◌≡◌, ◌+◌, ◌<◌, ◌≤◌, ℕ, List, length, Option, Bool, true, Result, Ok, Err}
+use Rattle.std.specs.Prelude.{◌≡◌, ◌+◌, ◌<◌, ◌≤◌, ℕ, List, length, Option, true, Result, Ok, Err}
 use Rattle.evo_base.specs.Causes.{CountRose}
-use Rattle.evo_base.specs.Content.{IsFront}
+use Rattle.evo_base.specs.Content.{ReadsUpTo}
+use Rattle.evo_base.specs.States.{FilesState}
 use Rattle.evo_first_form.specs.declared.Function.{Function}
 use Rattle.evo_first_form.specs.Interface.{interface_of}
 use Rattle.evo_first_form.specs.Accepted.{IsAcceptedLibrary, IsAcceptedInterface, IsAcceptedClient}
@@ -21,21 +22,21 @@ use Rattle.evo_driver.specs.declared.load.Libraries.{Libraries}
 use Rattle.evo_driver.specs.declared.load.Loaded.{Loaded}
 use Rattle.evo_driver.specs.Files.{Holds, HoldsLibrary, Passes, Breaks, Accepts, Refuses, Reaches, name_of}
 
--- Why one file is not had: before and now are the count of failed calls, and failed is whether the last call failed.
-abbrev pub LacksFile : (Refusal → Type 0) → Type 0 → Input → ℕ → ℕ → Bool → LoadError → Type 0
-LacksFile wrong sure at before now failed (stop.Refused which why) = (now ≡ before) × (which ≡ at) × wrong why
-LacksFile wrong sure at before now failed (stop.NotRead which) = CountRose before now × (failed ≡ true) × (which ≡ at) × (sure → ⊥)
-LacksFile wrong sure at before now failed (stop.Broken names) = ⊥
-LacksFile wrong sure at before now failed stop.Memory = now ≡ before
+-- why the file of this name is not had
+abbrev pub LacksFile : (Refusal → Type 0) → List ℕ → Input → FilesState → FilesState → LoadError → Type 0
+LacksFile wrong name at old new (stop.Refused which why) = (new.faults ≡ old.faults) × (which ≡ at) × wrong why
+LacksFile wrong name at old new (stop.NotRead which) = CountRose old.faults new.faults × (new.failed ≡ true) × (which ≡ at) × (old.gets name → ⊥)
+LacksFile wrong name at old new (stop.Broken names) = ⊥
+LacksFile wrong name at old new stop.Memory = new.faults ≡ old.faults
 
--- one file: what it holds, or why it is not had
-abbrev pub ReadsAs : {T : Type 0} → (T → Type 0) → (Refusal → Type 0) → Type 0 → Input → ℕ → ℕ → Bool → Result T LoadError → Type 0
-ReadsAs holds wrong sure at before now failed (Ok x) = (now ≡ before) × holds x
-ReadsAs holds wrong sure at before now failed (Err e) = LacksFile wrong sure at before now failed e
+-- the file of this name: what it holds, or why it is not had
+abbrev pub ReadsAs : {T : Type 0} → (T → Type 0) → (Refusal → Type 0) → List ℕ → Input → FilesState → FilesState → Result T LoadError → Type 0
+ReadsAs holds wrong name at old new (Ok x) = (new.faults ≡ old.faults) × holds x
+ReadsAs holds wrong name at old new (Err e) = LacksFile wrong name at old new e
 
 -- the whole text of a file, which is not too long
 abbrev pub IsShortText : Option (List ℕ) → List ℕ → Type 0
-IsShortText held text = IsFront held (file_limit + 1) text × (length text ≤ file_limit)
+IsShortText held text = ReadsUpTo held (file_limit + 1) text × (length text ≤ file_limit)
 
 -- a text of which no more is known than that it is too long
 abbrev pub IsWrongText : Option (List ℕ) → Refusal → Type 0
@@ -70,21 +71,22 @@ pub record HasAll (held : List ℕ → Option (List ℕ)) (job : Job) (found : L
   pub interface_is : found.libraries.interface ≡ interface_of job.library old
   pub accepted : IsAcceptedInterface found.libraries.interface
 
-module _ (held : List ℕ → Option (List ℕ)) (gets : List ℕ → Type 0) (job : Job) (before now : ℕ) (failed : Bool) where
-  -- why a job's files are not run
-  abbrev pub Stops : LoadError → Type 0
-  Stops (stop.Refused at why) = (now ≡ before) × Refuses held job at why
-  Stops (stop.NotRead at) = CountRose before now × (failed ≡ true) × Reaches held job at × (gets (name_of job at) → ⊥)
-  Stops (stop.Broken names) = (now ≡ before) × LacksNames held job names
-  Stops stop.Memory = now ≡ before
+-- why a job's files are not run
+abbrev pub Stops : Job → FilesState → FilesState → LoadError → Type 0
+Stops job old new (stop.Refused at why) = (new.faults ≡ old.faults) × Refuses old.held job at why
+Stops job old new (stop.NotRead at) = CountRose old.faults new.faults × (new.failed ≡ true) × Reaches old.held job at × (old.gets (name_of job at) → ⊥)
+Stops job old new (stop.Broken names) = (new.faults ≡ old.faults) × LacksNames old.held job names
+Stops job old new stop.Memory = new.faults ≡ old.faults
 
-  abbrev pub LoadsLibraries : Result Libraries LoadError → Type 0
-  LoadsLibraries (Ok found) = (now ≡ before) × HasLibraries held job found
-  LoadsLibraries (Err e) = Stops e
+-- both libraries, or why the job's files are not run
+abbrev pub LoadsLibraries : Job → FilesState → FilesState → Result Libraries LoadError → Type 0
+LoadsLibraries job old new (Ok found) = (new.faults ≡ old.faults) × HasLibraries old.held job found
+LoadsLibraries job old new (Err e) = Stops job old new e
 
-  abbrev pub LoadsAs : Result Loaded LoadError → Type 0
-  LoadsAs (Ok found) = (now ≡ before) × HasAll held job found
-  LoadsAs (Err e) = Stops e
+-- all that is run, or why the job's files are not run
+abbrev pub LoadsAs : Job → FilesState → FilesState → Result Loaded LoadError → Type 0
+LoadsAs job old new (Ok found) = (new.faults ≡ old.faults) × HasAll old.held job found
+LoadsAs job old new (Err e) = Stops job old new e
 
 -- what was loaded can be built: the client is the interface's, and the new library breaks no rule against it
 pub record Builds (loaded : Loaded) : Type 0 where

@@ -1,7 +1,8 @@
 -- What the top call leaves, by its status.
-use Rattle.std.specs.Prelude.{◌≡◌, ◌⊎◌, ℕ, List, [], codes, length, Bool, true, Option, Some, None, Result, Ok, Err}
+use Rattle.std.specs.Prelude.{◌≡◌, ◌<◌, ◌⊎◌, ℕ, List, [], codes, length, true, Option, Some, None, Result, Ok, Err}
 use Rattle.evo_base.specs.Causes.{CountRose}
 use Rattle.evo_base.specs.Content.{Appends}
+use Rattle.evo_base.specs.States.{FilesState, SinkState}
 use Rattle.evo_machine.specs.declared.machine.End.{End}
 use Rattle.evo_machine.specs.declared.machine.End.TheVariants as ending
 use Rattle.evo_machine.specs.Runs.{MachineState}
@@ -12,10 +13,9 @@ use Rattle.evo_driver.specs.declared.reply.ReplyError.TheVariants as halt
 use Rattle.evo_driver.specs.declared.reply.Reply.{Reply}
 use Rattle.evo_driver.specs.Answer.{Answer, Answers, Unread}
 
--- The answer to the words and the files: before and now are the count of failed calls on the files, and failed is whether the last call on
--- them failed. The count rose only where a file was not read, and that read was the last call.
-abbrev pub Means : List (List ℕ) → (List ℕ → Option (List ℕ)) → (List ℕ → Type 0) → ℕ → ℕ → Bool → Answer → Type 0
-Means words held gets before now failed a = (Answers words held a × (now ≡ before)) ⊎ (Unread words held gets a × CountRose before now × (failed ≡ true))
+-- The answer to the words and the files. The count of their failed calls rose only where a file was not read, and that read was the last call.
+abbrev pub Means : List (List ℕ) → FilesState → FilesState → Answer → Type 0
+Means words old new a = (Answers words old.held a × (new.faults ≡ old.faults)) ⊎ (Unread words old a × CountRose old.faults new.faults × (new.failed ≡ true))
 
 -- a fact for each status but those of a failed write and of want of memory
 abbrev pub OnAnswer : Status → Type 0 → Type 0
@@ -29,11 +29,17 @@ OnAnswer status.BreaksRules P = P
 OnAnswer status.NotRead P = P
 OnAnswer status.TooLong P = P
 
--- a write failed that could, and it was the last call on its sink
-pub record Fails (before now : ℕ) (takes : Type 0) (failed : Bool) : Type 0 where
-  pub rose : CountRose before now
-  pub could : takes → ⊥
-  pub last : failed ≡ true
+-- these bytes stand behind what was written, and no write failed
+pub record Receives (old new : SinkState) (bytes : List ℕ) : Type 0 where
+  pub written : Appends old.written new.written bytes
+  pub faultless : new.faults ≡ old.faults
+
+-- Of these bytes, of which there are some, a write failed that could, and it was the last call on its sink.
+pub record Fails (old new : SinkState) (bytes : List ℕ) : Type 0 where
+  pub some : 0 < length bytes
+  pub rose : CountRose old.faults new.faults
+  pub could : old.takes (length bytes) → ⊥
+  pub last : new.failed ≡ true
 
 -- a finished machine with this end
 abbrev pub HasEnd : Option MachineState → End → Type 0
@@ -70,15 +76,14 @@ EndsResult ending.Done reply = Replies (record { out = []; err = []; status = st
 EndsResult ending.Budget reply = Replies (record { out = []; err = codes "out of ticks\n"; status = status.OutOfTicks }) reply
 EndsResult (ending.Fault kind function at) reply = ⊥
 
--- What a job gives before its text on `err` is written: means is the fact that an answer is the job's, old and new are what is written
--- to `out`, and before, now, takes and failed are those of `out`.
-abbrev pub GivesResult : (Answer → Type 0) → Option (List ℕ) → Option (List ℕ) → ℕ → ℕ → (ℕ → Type 0) → Bool → Result Reply ReplyError → Type 0
-GivesResult means old new before now takes failed (Ok reply) = (a : Answer) × means a × Replies a reply × Appends old new a.out × (now ≡ before)
-GivesResult means old new before now takes failed (Err halt.NotWritten) = (a : Answer) × means a × Fails before now (takes (length a.out)) failed
-GivesResult means old new before now takes failed (Err halt.Memory) = Unit {0}
+-- What a job gives before its text on `err` is written: means is the fact that an answer is the job's, old and new are the states of `out`.
+abbrev pub GivesResult : (Answer → Type 0) → SinkState → SinkState → Result Reply ReplyError → Type 0
+GivesResult means old new (Ok reply) = (a : Answer) × means a × Replies a reply × Receives old new a.out
+GivesResult means old new (Err halt.NotWritten) = (a : Answer) × means a × Fails old new a.out
+GivesResult means old new (Err halt.Memory) = Unit {0}
 
--- What writing these bytes to `out` answers, a piece after another, where GivesResult has the other words.
-abbrev pub WritesAll : List ℕ → Option (List ℕ) → Option (List ℕ) → ℕ → ℕ → (ℕ → Type 0) → Bool → Result (Unit {0}) ReplyError → Type 0
-WritesAll bytes old new before now takes failed (Ok x) = Appends old new bytes × (now ≡ before)
-WritesAll bytes old new before now takes failed (Err halt.NotWritten) = Fails before now (takes (length bytes)) failed
-WritesAll bytes old new before now takes failed (Err halt.Memory) = Unit {0}
+-- what writing these bytes to `out` answers, a piece after another
+abbrev pub WritesAll : List ℕ → SinkState → SinkState → Result (Unit {0}) ReplyError → Type 0
+WritesAll bytes old new (Ok x) = Receives old new bytes
+WritesAll bytes old new (Err halt.NotWritten) = Fails old new bytes
+WritesAll bytes old new (Err halt.Memory) = Unit {0}

@@ -1,8 +1,9 @@
 //! A job up to its text on `err`.
 
 ghost use Rattle.std.specs.Prelude.{◌≡◌, List, ℕ};
+ghost use Rattle.evo_base.specs.States.{HoldSame};
 ghost use Rattle.evo_iface.specs.Text.{IsPlain};
-ghost use Rattle.evo_words.specs.Module.{IsModule};
+ghost use Rattle.evo_lex.specs.ModuleName.{IsModule};
 ghost use Rattle.evo_words.specs.Words.{IsEvolve};
 ghost use Rattle.evo_driver.specs.Files.{name_of};
 ghost use Rattle.evo_driver.specs.Top.{GivesResult, Means};
@@ -42,8 +43,9 @@ fn evolve<F: Files, O: Sink>(
     out: &mut O,
 ) -> Result<Reply, ReplyError>
     requires { IsModule job.now.library }
-    ensures { (words : List (List ℕ)) → IsEvolve words job.now → GivesResult (Means words (F.held files.old) (F.gets files.old) (F.faults files.old) (F.faults files.new) (F.failed files.new))
-        (O.written out.old) (O.written out.new) (O.faults out.old) (O.faults out.new) (O.takes out.old) (O.failed out.new) result }
+    ensures gives { (words : List (List ℕ)) → IsEvolve words job.now →
+        GivesResult (Means words (F.state files.old) (F.state files.new)) (O.state out.old) (O.state out.new) result }
+    ensures files { HoldSame (F.state files.old) (F.state files.new) }
 {
     known_plain(&job.library);
     match load(alloc, job, files) {
@@ -62,8 +64,8 @@ pub fn perform<F: Files, O: Sink>(
     files: &mut F,
     out: &mut O,
 ) -> Result<Reply, ReplyError>
-    ensures { GivesResult (Means words.now (F.held files.old) (F.gets files.old) (F.faults files.old) (F.faults files.new) (F.failed files.new))
-        (O.written out.old) (O.written out.new) (O.faults out.old) (O.faults out.new) (O.takes out.old) (O.failed out.new) result }
+    ensures gives { GivesResult (Means words.now (F.state files.old) (F.state files.new)) (O.state out.old) (O.state out.new) result }
+    ensures files { HoldSame (F.state files.old) (F.state files.new) }
 {
     match job_of(alloc, words)? {
         None => Ok(not_understood(alloc)?),

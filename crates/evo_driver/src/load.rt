@@ -1,6 +1,7 @@
 //! The files of a job, read in their order.
 
-ghost use Rattle.std.specs.Prelude.{◌≡◌, ◌+◌, List, ℕ};
+ghost use Rattle.std.specs.Prelude.{◌≡◌};
+ghost use Rattle.evo_base.specs.States.{HoldSame, StaySure};
 ghost use Rattle.evo_first_form.specs.Accepted.{IsAcceptedInterface};
 ghost use Rattle.evo_iface.specs.Text.{IsPlain};
 ghost use Rattle.evo_driver.specs.Files.{Holds, HoldsClient, IsWrongLibrary, IsWrongClient, unbuilt};
@@ -47,10 +48,10 @@ fn text_of<F: Files>(
     name: &Name,
     at: Input,
 ) -> Result<Vec<u8>, LoadError>
-    ensures reads { ReadsAs (λ v. IsShortText (F.held files.old name.now) v.items) (IsWrongText (F.held files.old name.now))
-        (F.gets files.old name.now) at (F.faults files.old) (F.faults files.new) (F.failed files.new) result }
-    ensures same { (other : List ℕ) → F.held files.new other ≡ F.held files.old other }
-    ensures gets { (other : List ℕ) → F.gets files.old other → F.gets files.new other }
+    ensures reads { ReadsAs (λ v. IsShortText ((F.state files.old).held name.now) v.items) (IsWrongText ((F.state files.old).held name.now))
+        name.now at (F.state files.old) (F.state files.new) result }
+    ensures same { HoldSame (F.state files.old) (F.state files.new) }
+    ensures sure { StaySure (F.state files.old) (F.state files.new) }
 {
     match files.get(alloc, name, FILE_LIMIT as u64) {
         Ok(text) if text.len() > FILE_LIMIT => Err(LoadError::Refused(at, Refusal::TooLong)),
@@ -68,10 +69,10 @@ fn get_library<F: Files>(
     at: Input,
 ) -> Result<AcceptedLibrary, LoadError>
     requires { IsPlain 32 library.now }
-    ensures reads { ReadsAs (IsLibraryOf (F.held files.old name.now) library.now) (λ why. Holds (F.held files.old name.now) (IsWrongLibrary library.now why))
-        (F.gets files.old name.now) at (F.faults files.old) (F.faults files.new) (F.failed files.new) result }
-    ensures same { (other : List ℕ) → F.held files.new other ≡ F.held files.old other }
-    ensures gets { (other : List ℕ) → F.gets files.old other → F.gets files.new other }
+    ensures reads { ReadsAs (IsLibraryOf ((F.state files.old).held name.now) library.now) (λ why. Holds ((F.state files.old).held name.now) (IsWrongLibrary library.now why))
+        name.now at (F.state files.old) (F.state files.new) result }
+    ensures same { HoldSame (F.state files.old) (F.state files.new) }
+    ensures sure { StaySure (F.state files.old) (F.state files.new) }
 {
     let text = text_of(alloc, files, name, at)?;
     match accept_library(alloc, library, &text) {
@@ -93,10 +94,10 @@ fn get_client<F: Files>(
     name: &Name,
 ) -> Result<Client, LoadError>
     requires { IsAcceptedInterface interface.now }
-    ensures reads { ReadsAs (HoldsClient (F.held files.old name.now) interface.now) (λ why. Holds (F.held files.old name.now) (IsWrongClient interface.now why))
-        (F.gets files.old name.now) Input.Client (F.faults files.old) (F.faults files.new) (F.failed files.new) result }
-    ensures same { (other : List ℕ) → F.held files.new other ≡ F.held files.old other }
-    ensures gets { (other : List ℕ) → F.gets files.old other → F.gets files.new other }
+    ensures reads { ReadsAs (HoldsClient ((F.state files.old).held name.now) interface.now) (λ why. Holds ((F.state files.old).held name.now) (IsWrongClient interface.now why))
+        name.now Input.Client (F.state files.old) (F.state files.new) result }
+    ensures same { HoldSame (F.state files.old) (F.state files.new) }
+    ensures sure { StaySure (F.state files.old) (F.state files.new) }
 {
     let text = text_of(alloc, files, name, Input::Client)?;
     match accept_client(alloc, interface, &text) {
@@ -114,9 +115,9 @@ fn get_client<F: Files>(
 // Reads both libraries, and tries the rules on their interfaces.
 fn load_libraries<F: Files>(alloc: Global, job: &Job, files: &mut F) -> Result<Libraries, LoadError>
     requires { IsPlain 32 job.now.library }
-    ensures loads { LoadsLibraries (F.held files.old) (F.gets files.old) job.now (F.faults files.old) (F.faults files.new) (F.failed files.new) result }
-    ensures same { (other : List ℕ) → F.held files.new other ≡ F.held files.old other }
-    ensures gets { (other : List ℕ) → F.gets files.old other → F.gets files.new other }
+    ensures loads { LoadsLibraries job.now (F.state files.old) (F.state files.new) result }
+    ensures same { HoldSame (F.state files.old) (F.state files.new) }
+    ensures sure { StaySure (F.state files.old) (F.state files.new) }
 {
     let old = get_library(alloc, files, &job.library, &job.old, Input::Old)?;
     let new = get_library(alloc, files, &job.library, &job.new, Input::New)?;
@@ -133,7 +134,8 @@ fn load_libraries<F: Files>(alloc: Global, job: &Job, files: &mut F) -> Result<L
 /// Reads the files of a job in their order, and tries the rules before the client is read.
 pub fn load<F: Files>(alloc: Global, job: &Job, files: &mut F) -> Result<Loaded, LoadError>
     requires { IsPlain 32 job.now.library }
-    ensures { LoadsAs (F.held files.old) (F.gets files.old) job.now (F.faults files.old) (F.faults files.new) (F.failed files.new) result }
+    ensures loads { LoadsAs job.now (F.state files.old) (F.state files.new) result }
+    ensures same { HoldSame (F.state files.old) (F.state files.new) }
 {
     let libraries = load_libraries(alloc, job, files)?;
     let client = get_client(alloc, files, &libraries.interface, &job.client)?;

@@ -18,8 +18,7 @@ fn write_lines<O: Sink>(
     names: &[Name],
     out: &mut O,
 ) -> Result<(), ReplyError>
-    ensures { WritesAll (removed_lines library.now names.now)
-        (O.written out.old) (O.written out.new) (O.faults out.old) (O.faults out.new) (O.takes out.old) (O.failed out.new) result }
+    ensures { WritesAll (removed_lines library.now names.now) (O.state out.old) (O.state out.new) result }
 {
     for name in names {
         let line = report_line(alloc, library, name)?;
@@ -35,8 +34,7 @@ pub fn report<O: Sink>(
     names: &[Name],
     out: &mut O,
 ) -> Result<Reply, ReplyError>
-    ensures { GivesResult (λ a. a ≡ report_answer (removed_lines library.now names.now))
-        (O.written out.old) (O.written out.new) (O.faults out.old) (O.faults out.new) (O.takes out.old) (O.failed out.new) result }
+    ensures { GivesResult (λ a. a ≡ report_answer (removed_lines library.now names.now)) (O.state out.old) (O.state out.new) result }
 {
     write_lines(alloc, library, names, out)?;
     Ok(Reply {

@@ -56,8 +56,7 @@ pub fn run<O: Sink>(
     out: &mut O,
 ) -> Result<Reply, ReplyError>
     requires { Builds loaded.now }
-    ensures { GivesResult (AnswersRun (run_with loaded.now ticks))
-        (O.written out.old) (O.written out.new) (O.faults out.old) (O.faults out.new) (O.takes out.old) (O.failed out.new) result }
+    ensures { GivesResult (AnswersRun (run_with loaded.now ticks)) (O.state out.old) (O.state out.new) result }
 {
     let image = build(alloc, loaded)?;
     let mut machine = Machine::new(alloc, image)?;

@@ -1,8 +1,8 @@
 //! The top call.
 
-ghost use Rattle.std.specs.Prelude.{◌≡◌, ◌⊎◌, List, ℕ, length};
-ghost use Rattle.evo_base.specs.Content.{Appends};
-ghost use Rattle.evo_driver.specs.Top.{OnAnswer, Means, Leaves, Fails};
+ghost use Rattle.std.specs.Prelude.{◌≡◌, ◌⊎◌};
+ghost use Rattle.evo_base.specs.States.{HoldSame};
+ghost use Rattle.evo_driver.specs.Top.{OnAnswer, Means, Leaves, Receives, Fails};
 ghost use Rattle.evo_driver.specs.Answer.{Answer};
 
 use crate::job::perform;
@@ -27,19 +27,17 @@ pub fn swevo<F: Files, O: Sink, E: Sink>(
     bench: &mut Option<Machine>,
 ) -> Status
     // The answer is the one that the words and the files ask for: its bytes, its status, and no failed write.
-    ensures answer { OnAnswer result ((a : Answer)
-        × Means words.now (F.held files.old) (F.gets files.old) (F.faults files.old) (F.faults files.new) (F.failed files.new) a
-        × (result ≡ a.status)
-        × Appends (O.written out.old) (O.written out.new) a.out × (O.faults out.new ≡ O.faults out.old)
-        × Appends (E.written err.old) (E.written err.new) a.err × (E.faults err.new ≡ E.faults err.old)) }
+    ensures answer { OnAnswer result ((a : Answer) × Means words.now (F.state files.old) (F.state files.new) a × (result ≡ a.status)
+        × Receives (O.state out.old) (O.state out.new) a.out × Receives (E.state err.old) (E.state err.new) a.err) }
 
-    // A failed write is a sink's that does not take all that the answer has for it, and the last call on that sink.
+    // A failed write is one of bytes that the answer has for a sink which does not take them all, and the last call on that sink.
     // Where it is that of `out`, nothing is written to `err`.
-    ensures unwritten { result ≡ Status.NotWritten → (a : Answer)
-        × Means words.now (F.held files.old) (F.gets files.old) (F.faults files.old) (F.faults files.new) (F.failed files.new) a
-        × ((Fails (O.faults out.old) (O.faults out.new) (O.takes out.old (length a.out)) (O.failed out.new) × (err.new ≡ err.old))
-        ⊎ (Appends (O.written out.old) (O.written out.new) a.out × (O.faults out.new ≡ O.faults out.old)
-        × Fails (E.faults err.old) (E.faults err.new) (E.takes err.old (length a.err)) (E.failed err.new))) }
+    ensures unwritten { result ≡ Status.NotWritten → (a : Answer) × Means words.now (F.state files.old) (F.state files.new) a
+        × ((Fails (O.state out.old) (O.state out.new) a.out × (err.new ≡ err.old))
+        ⊎ (Receives (O.state out.old) (O.state out.new) a.out × Fails (E.state err.old) (E.state err.new) a.err)) }
+
+    // Each file holds what it held, whatever the status.
+    ensures files { HoldSame (F.state files.old) (F.state files.new) }
 
     // The finished machine is left, or nothing is.
     ensures bench { Leaves result bench.new }

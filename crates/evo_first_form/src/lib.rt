@@ -1,9 +1,9 @@
 //! The trees of the first form of library and client.
 //!
-//! A library of this form is a list of functions without parameters, each of which returns an
-//! integer or what another function returns. A client imports one library and prints integers and
-//! what its functions return. Modules are read by the whole grammar; which of them are of this form
-//! is a condition on their trees (`specs/FirstForm`).
+//! A library of this form is a list of functions without parameters, each of which returns an integer or what another
+//! function returns. A client imports one library and prints integers and what its functions return. `library_of` and
+//! `client_of` answer which of them a module is; `specs/FirstForm` says it as a condition on trees, and `specs/Accepted`,
+//! `Interface` and `Rules` what is accepted, shown and kept. Trees (`evo_tree`) stand below; all that builds stands above.
 #![tactic(auto)]
 
 mod clients;

@@ -114,7 +114,7 @@ fn function_at(alloc: Global, item: &Item) -> Result<Option<Function>, AllocErro
     ensures { IfOk result (λ found. found ≡ spec.function_at item.now) }
 {
     match item {
-        Item::Decl(decl) => function_of(alloc, decl),
+        Item::Decl(decl) => function_of(alloc, decl.get()),
         Item::Stmt(_) => Ok(None),
     }
 }

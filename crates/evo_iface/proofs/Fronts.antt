@@ -7,11 +7,9 @@ use Rattle.std.proofs.lemmas.Slice.Eq.{bytes_eq-Decides}
 use Rattle.std.proofs.lemmas.List.{take-append-drop, take_at, drop_at}
 use Rattle.std.proofs.lemmas.Str.{IsUtf8-from_ascii}
 use Rattle.std.proofs.lemmas.Fmt.{decimal_by_steps, IsAscii-decimal}
+use Rattle.evo_lex.proofs.Bytes.{unequal}
 use Rattle.evo_iface.specs.Text.{Lacks, IsPlain}
 use Rattle.evo_iface.specs.Fronts.{length_before}
-
-pub unequal : (xs ys : List ℕ) → bytes_eq xs ys ≡ false → xs ≡ ys → ⊥
-unequal xs ys differ e = let yes = (bytes_eq-Decides xs ys).1 e in absurd cc
 
 -- a front that was taken off
 pub stripped : (text front rest : List ℕ) → bytes_eq (take (length front) text) front ≡ true → rest ≡ drop (length front) text → text ≡ front ++ rest

@@ -1,7 +1,6 @@
 -- What stands at the front of a text that is read from the left.
-use Rattle.std.specs.Prelude.{◌≡◌, ◌<◌, ◌^◌, ℕ, List, ◌++◌, Option, Some, None, not, ◌==◌, slice_index}
+use Rattle.std.specs.Prelude.{◌≡◌, ℕ, List, ◌++◌, Option, Some, None, not, ◌==◌, slice_index}
 use Rattle.std.specs.List.{prefix_len}
-use Rattle.std.specs.Fmt.{decimal}
 use denote.Ref.{Bor}
 use Rattle.evo_first_form.specs.declared.Term.{Term}
 use Rattle.evo_first_form.specs.declared.Declaration.{Declaration}
@@ -19,11 +18,6 @@ pub record IsBetween (before behind text name rest : List ℕ) : Type 0 where
 abbrev pub Between : List ℕ → List ℕ → List ℕ → Option (List ℕ × Bor (List ℕ)) → Type 0
 Between before behind text None = (m more : List ℕ) → IsPlain (slice_index behind 0) m → text ≡ before ++ (m ++ (behind ++ more)) → ⊥
 Between before behind text (Some (name, rest)) = IsBetween before behind text name rest.now
-
--- the number of a decimal text
-abbrev pub IsNumber : List ℕ → Option ℕ → Type 0
-IsNumber text None = (n : ℕ) → n < 2 ^ 64 → text ≡ decimal n → ⊥
-IsNumber text (Some n) = (text ≡ decimal n) × (n < 2 ^ 64)
 
 -- the term of a whole text
 abbrev pub IsTerm : List ℕ → Option Term → Type 0

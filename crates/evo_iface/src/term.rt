@@ -1,10 +1,11 @@
 ghost use Rattle.std.specs.Prelude.{◌≡◌, IfOk, MatchOption};
 ghost use Rattle.std.specs.Str.{IsUtf8};
-ghost use Rattle.evo_iface.specs.Fronts.{IsNumber, IsTerm};
+ghost use Rattle.evo_iface.specs.Fronts.{IsTerm};
 
 use crate::texts::BEHIND_CALL;
 use evo_base::Name;
 use evo_first_form::Term;
+use evo_lex::number_of;
 use std::alloc::{AllocError, Global};
 
 /// The name of these bytes, where they are UTF-8.
@@ -15,24 +16,6 @@ pub fn name_of(alloc: Global, bytes: &[u8]) -> Result<Option<Name>, AllocError>
         return Ok(None);
     };
     Ok(Some(Name::from_vec(bytes.to_vec(alloc)?)))
-}
-
-// The number of which this is the decimal text.
-fn number_of(alloc: Global, text: &[u8]) -> Result<Option<u64>, AllocError>
-    ensures { IfOk result (IsNumber text.now) }
-{
-    let Ok(digits) = str::from_utf8(text) else {
-        return Ok(None);
-    };
-    let Ok(number) = digits.parse::<u64>() else {
-        return Ok(None);
-    };
-    let again = number.to_string(alloc)?;
-    if again.as_bytes() == text {
-        Ok(Some(number))
-    } else {
-        Ok(None)
-    }
 }
 
 /// The term of which this is the text.

@@ -1,19 +1,19 @@
 -- A machine, and what its run leaves of the sink that it writes to.
-use Rattle.std.specs.Prelude.{◌≡◌, ℕ, List, Option, Some, None, Result, Ok, Err}
+use Rattle.std.specs.Prelude.{◌≡◌, ◌<◌, List, length, Option, Some, None, Result, Ok, Err}
 use Rattle.evo_base.specs.Causes.{CountRose}
 use Rattle.evo_base.specs.Content.{Appends, AppendsPrefix}
+use Rattle.evo_base.specs.States.{SinkState}
 use Rattle.evo_machine.specs.declared.image.Function.{Function}
 use Rattle.evo_machine.specs.declared.machine.End.{End}
 use Rattle.evo_machine.specs.declared.machine.RunStop.{RunStop}
 use Rattle.evo_machine.specs.declared.machine.RunStop.TheVariants as stop
 use Rattle.evo_machine.specs.Machine.{Run}
 
--- what was answered where this is the run: before and after are what is written and the count of faults,
--- `sure` is that the sink takes all that the run writes
-abbrev pub RunsResult : Run → Option (List ℕ) → Option (List ℕ) → ℕ → ℕ → Type 0 → Result End RunStop → Type 0
-RunsResult run old new before now sure (Ok ending) = Appends old new run.out × (ending ≡ run.ending) × (now ≡ before)
-RunsResult run old new before now sure (Err stop.Write) = AppendsPrefix old new run.out × CountRose before now × (sure → ⊥)
-RunsResult run old new before now sure (Err stop.Memory) = AppendsPrefix old new run.out × (now ≡ before)
+-- What was answered where this is the run. A failed write is one of a sink that does not take all that the run writes, which is something.
+abbrev pub RunsResult : Run → SinkState → SinkState → Result End RunStop → Type 0
+RunsResult run old new (Ok ending) = Appends old.written new.written run.out × (ending ≡ run.ending) × (new.faults ≡ old.faults)
+RunsResult run old new (Err stop.Write) = AppendsPrefix old.written new.written run.out × CountRose old.faults new.faults × (old.takes (length run.out) → ⊥) × (0 < length run.out)
+RunsResult run old new (Err stop.Memory) = AppendsPrefix old.written new.written run.out × (new.faults ≡ old.faults)
 
 -- a machine: its image, and how its run came out, once it has run
 pub record MachineState : Type 0 where

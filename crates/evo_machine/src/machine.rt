@@ -1,5 +1,5 @@
 //! A machine, with its image and what came of its run.
-ghost use Rattle.std.specs.Prelude.{◌≡◌, ◌⊎◌, length, true, None, Some, Err, IfOk, IfSome};
+ghost use Rattle.std.specs.Prelude.{◌≡◌, ◌⊎◌, true, None, Some, Err, IfOk, IfSome};
 ghost use Rattle.evo_machine.specs.declared.machine.RunStop.TheVariants.{Memory, Write};
 ghost use Rattle.evo_machine.specs.Machine.{Run, Executes, Reaches};
 ghost use Rattle.evo_machine.specs.Runs.{RunsResult, end_of};
@@ -107,10 +107,9 @@ impl Machine {
     /// fails. A machine that has run answers the same again and writes nothing.
     pub fn run<S: Sink>(&mut self, alloc: Global, ticks: u64, out: &mut S) -> Result<End, RunStop>
         ensures runs { self.old.finished ≡ None → (run : Run) → Executes self.old.image ticks run →
-            RunsResult run (S.written out.old) (S.written out.new) (S.faults out.old) (S.faults out.new)
-            (S.takes out.old (length run.out)) result }
-        ensures failed { self.old.finished ≡ None → result ≡ Err Write → S.failed out.new ≡ true }
-        ensures unfailed { S.failed out.new ≡ true → (S.failed out.old ≡ true) ⊎ (result ≡ Err Write) }
+            RunsResult run (S.state out.old) (S.state out.new) result }
+        ensures failed { self.old.finished ≡ None → result ≡ Err Write → (S.state out.new).failed ≡ true }
+        ensures unfailed { (S.state out.new).failed ≡ true → ((S.state out.old).failed ≡ true) ⊎ (result ≡ Err Write) }
         ensures again { IfSome self.old.finished (λ before. (result ≡ before) × (out.new ≡ out.old)) }
         ensures image { self.new.image ≡ self.old.image }
         ensures finished { self.new.finished ≡ Some result }
@@ -155,10 +154,9 @@ fn run_from<S: Sink>(
     out: &mut S,
 ) -> Result<End, RunStop>
     ensures runs { (run : Run) → Reaches image.now state.old run →
-        RunsResult run (S.written out.old) (S.written out.new) (S.faults out.old) (S.faults out.new)
-        (S.takes out.old (length run.out)) result }
-    ensures failed { result ≡ Err Write → S.failed out.new ≡ true }
-    ensures unfailed { S.failed out.new ≡ true → (S.failed out.old ≡ true) ⊎ (result ≡ Err Write) }
+        RunsResult run (S.state out.old) (S.state out.new) result }
+    ensures failed { result ≡ Err Write → (S.state out.new).failed ≡ true }
+    ensures unfailed { (S.state out.new).failed ≡ true → ((S.state out.old).failed ≡ true) ⊎ (result ≡ Err Write) }
 {
     image.loads();
     loop {

@@ -1,7 +1,7 @@
 use Rattle.std.proofs.Common.{◌≡◌, slice_set, take, length, ◌≤◌, arith, rules}
 use Rattle.std.specs.Option.{IsSomeAnd}
 use Rattle.std.proofs.lemmas.Grind.{common_steps}
-use Rattle.evo_base.specs.FilesState.{put_entry, room_of}
+use Rattle.evo_base.specs.MemFilesState.{put_entry, room_of}
 use Rattle.evo_base.proofs.Puts.{puts_to}
 use Rattle.evo_base.proofs.mem_files.put_to.Goals as goal
 

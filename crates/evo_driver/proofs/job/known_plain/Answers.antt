@@ -1,4 +1,4 @@
-use Rattle.evo_words.proofs.Modules.{no_space}
+use Rattle.evo_lex.proofs.ModuleNames.{no_space}
 use Rattle.evo_driver.proofs.Filters.{lacks}
 use Rattle.evo_driver.proofs.job.known_plain.Goals as goal
 

@@ -9,5 +9,5 @@ use Rattle.evo_driver.proofs.load.get_client.Goals as goal
 pub returns-in_err-text-clause-reads : goal.returns-in_err-text-clause-reads
 returns-in_err-text-clause-reads g c =
     let p = err_from_is_err_and c.from_residual.result c.from_residual.ensures.1 in
-    let held = g.F.Files.held c.args.files.now c.args.name.now in
-    rw (p.1, p.2) (lacks_as (IsWrongText held) (λ (why : Refusal). Holds held (IsWrongClient c.args.interface.now why)) _ which.Client _ _ _ (no_client held c.args.interface.now) c.in_err-text.field-0.0 c.in_err-text.ensures.reads)
+    let held = (g.F.Files.state c.args.files.now).held c.args.name.now in
+    rw (p.1, p.2) (lacks_as (IsWrongText held) (λ (why : Refusal). Holds held (IsWrongClient c.args.interface.now why)) c.args.name.now which.Client (g.F.Files.state c.args.files.now) (g.F.Files.state c.text_of.new.files) (no_client held c.args.interface.now) c.in_err-text.field-0.0 c.in_err-text.ensures.reads)

@@ -8,5 +8,5 @@ use Rattle.evo_driver.proofs.load.get_library.Goals as goal
 pub returns-in_err-text-clause-reads : goal.returns-in_err-text-clause-reads
 returns-in_err-text-clause-reads g c =
     let p = err_from_is_err_and c.from_residual.result c.from_residual.ensures.1 in
-    let held = g.F.Files.held c.args.files.now c.args.name.now in
-    rw (p.1, p.2) (lacks_as (IsWrongText held) (λ (why : Refusal). Holds held (IsWrongLibrary c.args.library.now why)) _ c.args.at _ _ _ (no_library held c.args.library.now) c.in_err-text.field-0.0 c.in_err-text.ensures.reads)
+    let held = (g.F.Files.state c.args.files.now).held c.args.name.now in
+    rw (p.1, p.2) (lacks_as (IsWrongText held) (λ (why : Refusal). Holds held (IsWrongLibrary c.args.library.now why)) c.args.name.now c.args.at (g.F.Files.state c.args.files.now) (g.F.Files.state c.text_of.new.files) (no_library held c.args.library.now) c.in_err-text.field-0.0 c.in_err-text.ensures.reads)

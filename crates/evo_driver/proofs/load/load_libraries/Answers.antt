@@ -15,21 +15,20 @@ not_nil (n ∷ ns) lt e = absurd cc
 pub returns-in_err-old-clause-loads : goal.returns-in_err-old-clause-loads
 returns-in_err-old-clause-loads g c =
     let p = err_from_is_err_and c.from_residual.result c.from_residual.ensures.1 in
-    let held = g.F.Files.held c.args.files.now in
-    let gets = g.F.Files.gets c.args.files.now in
+    let files = g.F.Files.state c.args.files.now in
     let library = c.args.job.now.library in
-    rw (p.1, p.2) (stops_at (λ (why : Refusal). Holds (held c.args.job.now.old) (IsWrongLibrary library why)) (gets c.args.job.now.old) held gets c.args.job.now which.Old _ _ _ _
+    rw (p.1, p.2) (stops_at (λ (why : Refusal). Holds (files.held c.args.job.now.old) (IsWrongLibrary library why)) c.args.job.now which.Old files files (g.F.Files.state c.get_library.new.files)
     refl tt (λ h. h) (λ why wrong. old_is_wrong why wrong) c.in_err-old.field-0.0 c.in_err-old.ensures.reads)
 
 pub returns-in_err-new-clause-loads : goal.returns-in_err-new-clause-loads
 returns-in_err-new-clause-loads g c =
     let p = err_from_is_err_and c.from_residual-in_err-new.result c.from_residual-in_err-new.ensures.1 in
     let a = c.in_ok-old.ensures in
-    let held = g.F.Files.held c.args.files.now in
-    let later = g.F.Files.held c.get_library.new.files c.args.job.now.new in
+    let files = g.F.Files.state c.args.files.now in
+    let later = g.F.Files.state c.get_library.new.files in
     let library = c.args.job.now.library in
-    rw (p.1, p.2) (stops_at (λ (why : Refusal). Holds later (IsWrongLibrary library why)) (g.F.Files.gets c.get_library.new.files c.args.job.now.new) held (g.F.Files.gets c.args.files.now) c.args.job.now which.New _ _ _ _
-    a.reads.0 (c.in_ok-old.old.functions, a.reads.1.holds) (a.gets c.args.job.now.new)
+    rw (p.1, p.2) (stops_at (λ (why : Refusal). Holds (later.held c.args.job.now.new) (IsWrongLibrary library why)) c.args.job.now which.New files later (g.F.Files.state c.get_library-2.new.files)
+    a.reads.0 (c.in_ok-old.old.functions, a.reads.1.holds) (a.sure.0 c.args.job.now.new)
     (λ why wrong. new_is_wrong why c.in_ok-old.old.functions a.reads.1.holds (subst (λ (h : Option (List ℕ)). Holds h (IsWrongLibrary library why)) (a.same c.args.job.now.new) wrong))
     c.in_err-new.field-0.0 c.in_err-new.ensures.reads)
 
@@ -38,7 +37,7 @@ returns-then-not-is_empty-clause-loads g c =
     let a = c.in_ok-old.ensures in
     let b = c.in_ok-new.ensures in (
       b.reads.0 ∙ a.reads.0,
-      broken_names (g.F.Files.held c.args.files.now) c.args.job.now c.in_ok-old.old.functions c.in_ok-new.new.functions _ _ c.from_vec.result
+      broken_names (g.F.Files.state c.args.files.now).held c.args.job.now c.in_ok-old.old.functions c.in_ok-new.new.functions _ _ c.from_vec.result
           (record {
             old_holds = a.reads.1.holds;
             new_holds = subst (λ (h : Option (List ℕ)). HoldsLibrary h c.args.job.now.library c.in_ok-new.new.functions) (a.same c.args.job.now.new) b.reads.1.holds;

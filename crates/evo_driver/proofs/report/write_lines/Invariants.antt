@@ -8,5 +8,5 @@ use Rattle.evo_driver.proofs.report.write_lines.Given as goal
 abbrev pub invariant-loop-name : goal.invariant-loop-name
 invariant-loop-name g l =
     (new : _) (r : Result (Unit {0}) ReplyError)
-    → WritesAll (removed_lines l.library (drop l.name-index l.names)) (g.O.Sink.written l.out) (g.O.Sink.written new) (g.O.Sink.faults l.out) (g.O.Sink.faults new) (g.O.Sink.takes l.out) (g.O.Sink.failed new) r
-    → WritesAll (removed_lines l.library l.names) (g.O.Sink.written l.initial.out) (g.O.Sink.written new) (g.O.Sink.faults l.initial.out) (g.O.Sink.faults new) (g.O.Sink.takes l.initial.out) (g.O.Sink.failed new) r
+    → WritesAll (removed_lines l.library (drop l.name-index l.names)) (g.O.Sink.state l.out) (g.O.Sink.state new) r
+    → WritesAll (removed_lines l.library l.names) (g.O.Sink.state l.initial.out) (g.O.Sink.state new) r

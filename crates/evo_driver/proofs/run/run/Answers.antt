@@ -1,4 +1,4 @@
-use Rattle.std.proofs.Common.{◌≡◌, ℕ, List, None, length, refl, sym, ap, subst}
+use Rattle.std.proofs.Common.{◌≡◌, ◌<◌, ℕ, List, None, length, refl, sym, ap, subst}
 use Rattle.evo_base.specs.Content.{Appends}
 use Rattle.evo_machine.specs.declared.image.Function.{Function}
 use Rattle.evo_machine.specs.declared.machine.End.{End}
@@ -27,7 +27,7 @@ returns-in-Ok g c =
     let runs = c.in-Ok.ensures.runs (ap (λ (m : MachineState). m.finished) made) (record { out = ran.out; ending = ex.end })
     (subst (λ (fs : List Function). Executes fs c.args.ticks (record { out = ran.out; ending = ex.end })) (sym (ap (λ (m : MachineState). m.image) made)) ex.run) in
     let reply = replied ran.out ran.ending ex.end c.in_ok-ended-in-Ok.field-0 ex.is (subst (λ (e : End). EndsResult e c.in_ok-ended-in-Ok.field-0) runs.1 c.in_ok-ended-in-Ok.ensures) in
-    (reply.0, reply.1, reply.2, subst (λ (l : List ℕ). Appends (g.O.Sink.written c.args.out.now) (g.O.Sink.written c.run.new.out) l) (sym reply.3) runs.0, runs.2)
+    (reply.0, reply.1, reply.2, record { written = subst (λ (l : List ℕ). Appends (g.O.Sink.state c.args.out.now).written (g.O.Sink.state c.run.new.out).written l) (sym reply.3) runs.0; faultless = runs.2 })
 
 pub returns-in-Err-Write : goal.returns-in-Err-Write
 returns-in-Err-Write g c =
@@ -42,8 +42,9 @@ returns-in-Err-Write g c =
       a.answer,
       a.ends,
       record {
+        some = subst (λ (l : List ℕ). 0 < length l) (sym a.out_is) why.3;
         rose = why.1;
-        could = subst (λ (l : List ℕ). g.O.Sink.takes c.args.out.now (length l) → ⊥) (sym a.out_is) why.2;
+        could = subst (λ (l : List ℕ). (g.O.Sink.state c.args.out.now).takes (length l) → ⊥) (sym a.out_is) why.2;
         last = c.in-Err-Write.ensures.failed fin (rw c.in-Err-Write.field-0-is refl);
       },
     )

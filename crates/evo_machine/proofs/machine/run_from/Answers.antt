@@ -1,6 +1,7 @@
 use Rattle.std.proofs.Common.{◌≡◌, ◌-◌, ◌++◌, length, arith, Ok}
 use Rattle.std.proofs.lemmas.Result.{err_from_is_err_and}
 use Rattle.std.proofs.lemmas.List.{length-append}
+use Rattle.evo_machine.proofs.Says.{writes-some}
 use Rattle.evo_machine.proofs.Sinks.{AppendsPrefix-front, RunsResult-ended, RunsResult-then}
 use Rattle.evo_machine.proofs.Whole.{rest-goes, rest-writes, rest-ends, goes-falls, writes-falls}
 use Rattle.evo_machine.proofs.machine.run_from.Goals as goal
@@ -26,6 +27,7 @@ returns-in_err-write-in-Writes-clause-runs g c =
       AppendsPrefix-front _ _ c.as_bytes.result.now w.0.out why.content,
       why.cause.0,
       λ t. why.cause.1 (g.met.S.Sink.takes_fewer _ _ _ (omega (arith, length-append c.as_bytes.result.now w.0.out)) t),
+      (let some = writes-some c.args.image.now _ _ _ _ c.as_bytes.ensures.value (rw c.in-Writes.is at c.in_ok-do_step.ensures) in omega (arith, length-append c.as_bytes.result.now w.0.out, some)),
     ))
 
 pub loop-line-smaller : goal.loop-line-smaller
@@ -41,9 +43,9 @@ loop-line-preserved g c =
       comes = λ new r h. c.loop-line.invariant.comes new r (λ run q.
           let w = rest-writes _ _ _ _ _ run c.as_bytes.ensures.value (rw c.in-Writes.is at c.in_ok-do_step.ensures) q in
           let behind : length (line ++ w.0.out) - length line ≡ length w.0.out = omega (arith, length-append line w.0.out) in
-          rw w.1 (RunsResult-then line w.0 _ _ _ _ _ _ _ _ r ok.content ok.cause (λ t. rw behind at (ok.takes _ (omega (arith, length-append line w.0.out)) t)) (h w.0 w.2)));
+          rw w.1 (RunsResult-then line w.0 (g.S.Sink.state c.loop-line.out) (g.S.Sink.state c.write.new.self) (g.S.Sink.state new) r ok.content ok.cause (λ t. rw behind at (ok.takes _ (omega (arith, length-append line w.0.out)) t)) (h w.0 w.2)));
     }
 
 pub returns-in-Ends-clause-runs : goal.returns-in-Ends-clause-runs
 returns-in-Ends-clause-runs g c =
-    c.loop-line.invariant.comes c.loop-line.out (Ok c.in-Ends.end) (λ run q. RunsResult-ended run c.in-Ends.end _ _ ⊥ (rest-ends _ _ _ run (rw c.in-Ends.is at c.in_ok-do_step.ensures) q))
+    c.loop-line.invariant.comes c.loop-line.out (Ok c.in-Ends.end) (λ run q. RunsResult-ended run c.in-Ends.end (g.S.Sink.state c.loop-line.out) (rest-ends _ _ _ run (rw c.in-Ends.is at c.in_ok-do_step.ensures) q))

@@ -1,4 +1,4 @@
-use Rattle.std.proofs.Common.{◌≡◌, true, length, Result}
+use Rattle.std.proofs.Common.{◌≡◌, true, Result}
 use Rattle.evo_machine.specs.declared.machine.End.{End}
 use Rattle.evo_machine.specs.declared.machine.RunStop.{RunStop}
 use Rattle.evo_machine.specs.Image.{Loads}
@@ -11,10 +11,10 @@ use Rattle.evo_machine.proofs.machine.run_from.Given as goal
 abbrev pub invariant-loop-line : goal.invariant-loop-line
 invariant-loop-line g l = record {
   loads : Loads l.image;
-  unfailed : g.S.Sink.failed l.out ≡ true → g.S.Sink.failed l.initial.out ≡ true;
+  unfailed : (g.S.Sink.state l.out).failed ≡ true → (g.S.Sink.state l.initial.out).failed ≡ true;
   comes : (new : _) (r : Result End RunStop)
-      → ((rest : Run) → Reaches l.image l.state rest → RunsResult rest (g.S.Sink.written l.out) (g.S.Sink.written new) (g.S.Sink.faults l.out) (g.S.Sink.faults new) (g.S.Sink.takes l.out (length rest.out)) r)
-      → (run : Run) → Reaches l.image l.initial.state run → RunsResult run (g.S.Sink.written l.initial.out) (g.S.Sink.written new) (g.S.Sink.faults l.initial.out) (g.S.Sink.faults new) (g.S.Sink.takes l.initial.out (length run.out)) r;
+      → ((rest : Run) → Reaches l.image l.state rest → RunsResult rest (g.S.Sink.state l.out) (g.S.Sink.state new) r)
+      → (run : Run) → Reaches l.image l.initial.state run → RunsResult run (g.S.Sink.state l.initial.out) (g.S.Sink.state new) r;
 }
 
 abbrev pub decreases-loop-line : goal.decreases-loop-line

@@ -2,6 +2,7 @@
 use Rattle.std.specs.Prelude.{◌≡◌, ◌≢◌, ℕ, ◌+◌, ◌-◌, ◌/◌, ◌^◌, ◌≤◌, ◌<◌, min, nat_le, Bool, false, not, ◌||◌, List, [], ◌∷◌, ◌++◌, length, take, slice_index_or, slice_set, MatchOption, Option, Some, None, IsSome, is_none, if◌then◌else◌}
 use Rattle.std.specs.Option.{IsSomeAnd, option_map, option_map_or}
 use Rattle.std.specs.Str.{bytes_eq}
+use Rattle.evo_base.specs.States.{FilesState}
 use Rattle.evo_base.specs.FailurePlan.{PlanState, NoneAhead, fails_next, counted}
 
 -- a name with its bytes and the room for a later put
@@ -11,7 +12,7 @@ pub record StoredFile : Type 0 where
   pub room : ℕ
 
 -- the names that are prepared, the calls that are to fail, how many calls failed, and whether the last one did
-pub record FilesState : Type 0 where
+pub record MemFilesState : Type 0 where
   pub entries : List StoredFile
   pub plan : PlanState
   pub faults : ℕ
@@ -58,7 +59,7 @@ abbrev pub bytes_of : List ℕ → List StoredFile → Option (List ℕ)
 bytes_of name es = option_map (λ (e : StoredFile). e.bytes) (entry_of name es)
 
 -- the bytes that the files hold under a name
-abbrev pub held_of : FilesState → List ℕ → Option (List ℕ)
+abbrev pub held_of : MemFilesState → List ℕ → Option (List ℕ)
 held_of f name = bytes_of name f.entries
 
 -- the room of a name
@@ -77,7 +78,7 @@ abbrev pub has_room : List ℕ → ℕ → List StoredFile → Bool
 has_room name n es = option_map_or (λ (room : ℕ). nat_le n room) (room_of name es) false
 
 -- the state after one more call, which failed or did not
-abbrev pub after_call : FilesState → Bool → FilesState
+abbrev pub after_call : MemFilesState → Bool → MemFilesState
 after_call f fails = record {
   entries = f.entries;
   plan = counted f.plan;
@@ -86,35 +87,39 @@ after_call f fails = record {
 }
 
 -- a get of this name fails: it is listed, or the name is not prepared
-abbrev pub get_fails : FilesState → List ℕ → Bool
+abbrev pub get_fails : MemFilesState → List ℕ → Bool
 get_fails f name = fails_next f.plan || is_none (entry_of name f.entries)
 
 -- the files after a get, of whatever answer
-abbrev pub after_get : FilesState → List ℕ → FilesState
+abbrev pub after_get : MemFilesState → List ℕ → MemFilesState
 after_get f name = after_call f (get_fails f name)
 
 -- a put of so many bytes to this name fails: there is no room for them, or it is listed
-abbrev pub put_fails : FilesState → List ℕ → ℕ → Bool
+abbrev pub put_fails : MemFilesState → List ℕ → ℕ → Bool
 put_fails f name n = not (has_room name n f.entries) || fails_next f.plan
 
 -- how many of its bytes a put keeps where there is room: the first half where it is listed
-abbrev pub put_kept : FilesState → ℕ → ℕ
+abbrev pub put_kept : MemFilesState → ℕ → ℕ
 put_kept f n = if fails_next f.plan then n / 2 else n
 
 -- the entries after a put, which stay where there is no room for all of its bytes
-abbrev pub entries_after_put : FilesState → List ℕ → List ℕ → List StoredFile
+abbrev pub entries_after_put : MemFilesState → List ℕ → List ℕ → List StoredFile
 entries_after_put f name bytes = if has_room name (length bytes) f.entries then put_entry name (take (put_kept f (length bytes)) bytes) f.entries else f.entries
 
 -- the files after a put
-abbrev pub after_put : FilesState → List ℕ → List ℕ → FilesState
+abbrev pub after_put : MemFilesState → List ℕ → List ℕ → MemFilesState
 after_put f name bytes = record (after_call f (put_fails f name (length bytes))) { entries = entries_after_put f name bytes }
 
 -- no listed call lies ahead and the name is prepared
-pub record Gets (f : FilesState) (name : List ℕ) : Type 0 where
+pub record Gets (f : MemFilesState) (name : List ℕ) : Type 0 where
   pub unlisted : NoneAhead f.plan
   pub prepared : IsSome (room_of name f.entries)
 
 -- no listed call lies ahead and the name is prepared with room for so many bytes
-pub record Takes (f : FilesState) (name : List ℕ) (n : ℕ) : Type 0 where
+pub record Takes (f : MemFilesState) (name : List ℕ) (n : ℕ) : Type 0 where
   pub unlisted : NoneAhead f.plan
   pub room : IsSomeAnd (room_of name f.entries) (λ room. n ≤ room)
+
+-- what contracts see of files in memory
+abbrev pub files_state : MemFilesState → FilesState
+files_state f = record { held = held_of f; faults = f.faults; failed = f.failed; gets = Gets f; puts = Takes f }

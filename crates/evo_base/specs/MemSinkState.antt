@@ -1,9 +1,10 @@
 -- A sink in memory.
-use Rattle.std.specs.Prelude.{ℕ, ◌+◌, ◌-◌, ◌/◌, ◌^◌, ◌≤◌, min, List, ◌++◌, take, length, Bool, nat_lt, if◌then◌else◌, ◌||◌}
+use Rattle.std.specs.Prelude.{ℕ, Some, ◌+◌, ◌-◌, ◌/◌, ◌^◌, ◌≤◌, min, List, ◌++◌, take, length, Bool, nat_lt, if◌then◌else◌, ◌||◌}
+use Rattle.evo_base.specs.States.{SinkState}
 use Rattle.evo_base.specs.FailurePlan.{PlanState, NoneAhead, fails_next, counted}
 
 -- what was written, the room for all of it, the calls that are to fail, how many failed, and whether the last one did
-pub record SinkState : Type 0 where
+pub record MemSinkState : Type 0 where
   pub bytes : List ℕ
   pub room : ℕ
   pub plan : PlanState
@@ -11,19 +12,19 @@ pub record SinkState : Type 0 where
   pub failed : Bool
 
 -- the room that is left
-abbrev pub left_of : SinkState → ℕ
+abbrev pub left_of : MemSinkState → ℕ
 left_of s = s.room - length s.bytes
 
 -- a write of so many bytes fails
-abbrev pub fails_at : SinkState → ℕ → Bool
+abbrev pub fails_at : MemSinkState → ℕ → Bool
 fails_at s n = nat_lt (left_of s) n || fails_next s.plan
 
 -- how many of its bytes a write keeps: what fits, or the first half where it is listed
-abbrev pub kept_of : SinkState → ℕ → ℕ
+abbrev pub kept_of : MemSinkState → ℕ → ℕ
 kept_of s n = if nat_lt (left_of s) n then left_of s else if fails_next s.plan then n / 2 else n
 
 -- the sink after a write
-abbrev pub after_write : SinkState → List ℕ → SinkState
+abbrev pub after_write : MemSinkState → List ℕ → MemSinkState
 after_write s piece = record {
   bytes = s.bytes ++ take (kept_of s (length piece)) piece;
   room = s.room;
@@ -33,6 +34,10 @@ after_write s piece = record {
 }
 
 -- no listed call lies ahead and so many bytes of room are left
-pub record Takes (s : SinkState) (n : ℕ) : Type 0 where
+pub record Takes (s : MemSinkState) (n : ℕ) : Type 0 where
   pub unlisted : NoneAhead s.plan
   pub fits : length s.bytes + n ≤ s.room
+
+-- what contracts see of a sink in memory
+abbrev pub sink_state : MemSinkState → SinkState
+sink_state s = record { written = Some s.bytes; faults = s.faults; failed = s.failed; takes = Takes s }
