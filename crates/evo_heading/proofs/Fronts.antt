@@ -7,13 +7,11 @@ use Rattle.std.proofs.lemmas.Slice.Eq.{bytes_eq-Decides}
 use Rattle.std.proofs.lemmas.Bool.{cases_lt}
 use Rattle.std.proofs.lemmas.List.{take-append-drop, take_at, drop_at, append_cancel_left}
 use Rattle.std.proofs.lemmas.List.Sums.{prefix_len-drop_no, prefix_len-drop_all, prefix_len_stops}
+use Rattle.evo_lex.proofs.Bytes.{unequal}
 use Rattle.evo_tree.specs.Modules.{IsLineEnd}
 use Rattle.evo_heading.specs.Heading.{Rest, IsEnded, IsOpened}
 
 -- ---- a front that is known
-
-unequal : (xs ys : List ℕ) → bytes_eq xs ys ≡ false → xs ≡ ys → ⊥
-unequal xs ys differ e = let yes = (bytes_eq-Decides xs ys).1 e in absurd cc
 
 -- a front that was taken off
 pub stripped : (front text rest : List ℕ) → bytes_eq (take (length front) text) front ≡ true → rest ≡ drop (length front) text → text ≡ front ++ rest
@@ -118,9 +116,6 @@ ended_once text r s of_r of_s = same_rest text r s (which_end text r of_r) (whic
 module _ (line words text : List ℕ) where
   pub behind_line : (a rest : List ℕ) → text ≡ line ++ a → IsOpened line words text rest → IsEnded a (words ++ rest)
   behind_line a rest e is = subst (λ (l : List ℕ). IsEnded l (words ++ rest)) (append_cancel_left line is.behind a (sym is.whole ∙ e)) is.ended
-
-  pub no_line : ((a : List ℕ) → text ≡ line ++ a → ⊥) → (rest : List ℕ) → IsOpened line words text rest → ⊥
-  no_line none rest is = none is.behind is.whole
 
   pub opened : (a b : List ℕ) → text ≡ line ++ a → IsEnded a b → (r : Option (Bor (List ℕ))) → Rest (λ rest. b ≡ words ++ rest) r → Rest (IsOpened line words text) r
   opened a b e is None none = λ rest opens. none rest (ended_once a b (words ++ rest) is (behind_line a rest e opens))

@@ -3,7 +3,7 @@ use Rattle.std.proofs.Common.{◌≡◌, ℕ, List, ◌∷◌, ◌++◌, codes, 
 use Rattle.std.specs.Char.{is_ascii_digit}
 use Rattle.std.specs.List.{prefix_len}
 use Rattle.std.specs.Fmt.{decimal}
-use Rattle.evo_tree.specs.declared.declaration.Release.{Release}
+use Rattle.evo_base.specs.declared.place.Release.{Release}
 use Rattle.evo_tree.specs.Modules.{IsLineEnd, IsHeading}
 use Rattle.evo_heading.specs.declared.parts.TheConstants.{FORMAT, BEFORE_NAME}
 use Rattle.evo_heading.specs.Heading.{IsEnded, IsOpened, IsNamed, IsReleased}

@@ -1,12 +1,12 @@
 -- Names of modules at the front of a text.
-use Rattle.std.proofs.Common.{◌≡◌, ◌≢◌, ℕ, suc, ◌<◌, Bool, true, false, not, List, [], ◌∷◌, ◌++◌, take, drop, length, get_or, refl, sym, ◌∙◌, ap, subst, arith}
+use Rattle.std.proofs.Common.{◌≡◌, ◌≢◌, ℕ, suc, ◌<◌, Bool, true, false, not, List, [], ◌∷◌, ◌++◌, take, drop, length, get_or, refl, sym, ◌∙◌, subst, arith}
 use Rattle.std.specs.Prelude.{◌==◌}
 use Rattle.std.specs.List.{prefix_len}
 use Rattle.std.specs.Str.{IsUtf8}
-use Rattle.evo_words.specs.Module.{IsModule}
-use Rattle.evo_words.proofs.Modules.{no_space}
+use Rattle.evo_lex.specs.ModuleName.{IsModule}
+use Rattle.evo_lex.proofs.ModuleNames.{no_space}
 use Rattle.evo_heading.specs.Heading.{IsNamed}
-use Rattle.evo_heading.proofs.Fronts.{Pass, front_is, rest_is, whole_is, cut_once}
+use Rattle.evo_heading.proofs.Fronts.{Pass, front_is, rest_is, cut_once}
 
 -- no space
 abbrev pub is_other : ℕ → Bool
@@ -47,6 +47,3 @@ module _ (text front rest : List ℕ) (n : ℕ) (n-is : n ≡ prefix_len is_othe
 
   pub no_module : (IsModule front → ⊥) → (name more : List ℕ) → IsNamed text name more → ⊥
   no_module none name more is = none (subst IsModule (name_is name more is) is.is)
-
-  pub name_whole : (more : List ℕ) → rest ≡ (32 ∷ []) ++ more → text ≡ front ++ 32 ∷ more
-  name_whole more e = whole_is is_other text front rest n n-is front-is rest-is ∙ ap (λ (l : List ℕ). front ++ l) e

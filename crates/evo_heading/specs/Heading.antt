@@ -5,8 +5,8 @@ use Rattle.std.specs.List.{prefix_len}
 use Rattle.std.specs.Str.{IsUtf8}
 use Rattle.std.specs.Fmt.{decimal}
 use denote.Ref.{Bor}
-use Rattle.evo_words.specs.Module.{IsModule}
-use Rattle.evo_tree.specs.declared.declaration.Release.{Release}
+use Rattle.evo_lex.specs.ModuleName.{IsModule}
+use Rattle.evo_base.specs.declared.place.Release.{Release}
 use Rattle.evo_tree.specs.Modules.{IsLineEnd, IsHeading}
 use Rattle.evo_heading.specs.declared.lines.Heading.{Heading}
 

@@ -1,7 +1,6 @@
 //! What a heading says.
 
-use evo_base::Name;
-use evo_tree::Release;
+use evo_base::{Name, Release};
 
 /// What the two lines with which an interface begins say.
 #[derive(Drop)]

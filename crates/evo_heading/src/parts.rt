@@ -5,9 +5,8 @@ ghost use Rattle.std.specs.Char.{is_ascii_digit};
 ghost use Rattle.std.specs.List.{prefix_len};
 ghost use Rattle.evo_heading.specs.Heading.{Front, Rest, IsEnded, IsOpened, IsNamed, IsNumbered, IsReleased};
 
-use evo_base::Name;
-use evo_tree::Release;
-use evo_words::{is_module, number_of};
+use evo_base::{Name, Release};
+use evo_lex::{is_module, number_of};
 use std::alloc::{AllocError, Global};
 
 /// The first line.

@@ -1,16 +1,11 @@
 -- Steps through a nested comment.
-use Rattle.std.proofs.Common.{◌≡◌, ℕ, zero, suc, ◌+◌, List, [], ◌∷◌, drop, Bool, true, false, Some, refl}
+use Rattle.std.proofs.Common.{◌≡◌, ℕ, zero, suc, ◌+◌, List, [], ◌∷◌, drop, Bool, true, false, refl}
 use Rattle.std.specs.Prelude.{◌&&◌, ◌==◌}
 use Rattle.evo_lex.specs.Front.{starts, comment_from}
 
 and_false : (b : Bool) → (b && false) ≡ true → ⊥
 and_false true e = absurd cc
 and_false false e = absurd cc
-
-pub ends : (n : ℕ) (rest : List ℕ) → starts 42 47 rest ≡ true → comment_from n 0 rest ≡ Some (n + 2)
-ends n [] e = absurd cc
-ends n (c ∷ []) e = absurd (and_false (c == 42) e)
-ends n (c ∷ d ∷ text) e = rw e refl
 
 pub closes : (n depth : ℕ) (rest : List ℕ) → starts 42 47 rest ≡ true → comment_from n (suc depth) rest ≡ comment_from (n + 2) depth (drop 2 rest)
 closes n depth [] e = absurd cc

@@ -8,6 +8,7 @@ use Rattle.unicode_ident.specs.Ident.{is_xid_continue}
 use Rattle.evo_base.specs.declared.token.TokenKind.{TokenKind}
 use Rattle.evo_base.specs.declared.token.TokenKind.TheVariants as kind
 use Rattle.evo_base.specs.Keywords.{is_keyword}
+use Rattle.evo_lex.specs.Codes.{line_feed, quote, hash, apostrophe, open_parenthesis, close_parenthesis, star, comma, dot, slash, digit_zero, colon, semicolon, at_sign, backslash, letter_b, letter_n, letter_o, letter_r, letter_t, letter_u, letter_x, open_brace, close_brace}
 use Rattle.evo_lex.specs.declared.class.Base.{Base}
 use Rattle.evo_lex.specs.declared.class.Base.TheVariants as base
 use Rattle.evo_lex.specs.declared.class.Class.{Class}
@@ -26,24 +27,24 @@ starts a b text = slice_index text 0 == a && slice_index text 1 == b
 
 -- `//` or `/*`
 abbrev pub begins_comment : List ℕ → Bool
-begins_comment text = starts 47 47 text || starts 47 42 text
+begins_comment text = starts slash slash text || starts slash star text
 
 -- Where a comment ends in the text behind its opening, of which n characters are read, with so many further comments open: behind the `*/` that closes it.
 abbrev pub comment_from : ℕ → ℕ → List ℕ → Option ℕ
 comment_from n depth [] = None
 comment_from n depth (c ∷ []) = None
-comment_from n zero (c ∷ d ∷ text) = if c == 42 && d == 47 then Some (n + 2)
-    else if c == 47 && d == 42 then comment_from (n + 2) 1 text
+comment_from n zero (c ∷ d ∷ text) = if c == star && d == slash then Some (n + 2)
+    else if c == slash && d == star then comment_from (n + 2) 1 text
     else comment_from (n + 1) 0 (d ∷ text)
-comment_from n (suc depth) (c ∷ d ∷ text) = if c == 42 && d == 47 then comment_from (n + 2) depth text
-    else if c == 47 && d == 42 then comment_from (n + 2) (suc (suc depth)) text
+comment_from n (suc depth) (c ∷ d ∷ text) = if c == star && d == slash then comment_from (n + 2) depth text
+    else if c == slash && d == star then comment_from (n + 2) (suc (suc depth)) text
     else comment_from (n + 1) (suc depth) (d ∷ text)
 
 -- one white character, or one comment; a comment `//` ends before the line feed
 unfoldable pub white_of : List ℕ → Option ℕ
 white_of text = if is_white (slice_index text 0) then Some 1
-    else if starts 47 47 text then Some (2 + run_of class.OfLine (drop 2 text))
-    else if starts 47 42 text then comment_from 2 0 (drop 2 text)
+    else if starts slash slash text then Some (2 + run_of class.OfLine (drop 2 text))
+    else if starts slash star text then comment_from 2 0 (drop 2 text)
     else None
 
 -- what an identifier that is a front is
@@ -52,9 +53,9 @@ kind_of word = if bytes_eq (codes "_") word then kind.Underscore else if is_keyw
 
 -- the base of an integer, by the letter behind its zero
 abbrev pub base_of : List ℕ → Base
-base_of text = if starts 48 120 text then base.Hexadecimal
-    else if starts 48 111 text then base.Octal
-    else if starts 48 98 text then base.Binary
+base_of text = if starts digit_zero letter_x text then base.Hexadecimal
+    else if starts digit_zero letter_o text then base.Octal
+    else if starts digit_zero letter_b text then base.Binary
     else base.Decimal
 
 -- how many characters say the base
@@ -85,7 +86,7 @@ integer_value text = value_of (base_of text) (drop (prefix_of (base_of text)) te
 
 -- one of 0 \ t n r " '
 abbrev pub is_escape : ℕ → Bool
-is_escape c = c == 48 || c == 92 || c == 116 || c == 110 || c == 114 || c == 34 || c == 39
+is_escape c = c == digit_zero || c == backslash || c == letter_t || c == letter_n || c == letter_r || c == quote || c == apostrophe
 
 -- the value of a character
 abbrev pub is_scalar : ℕ → Bool
@@ -93,26 +94,26 @@ is_scalar v = nat_lt v 0xD800 || (nat_lt 0xDFFF v && nat_lt v 0x110000)
 
 -- so many characters are 1 to 8 hexadecimal digits of a character's value, and `}` stands behind them
 abbrev pub is_scalar_text : ℕ → List ℕ → Bool
-is_scalar_text n text = nat_lt 0 n && nat_le n 8 && slice_index text n == 125 && is_scalar (value_of base.Hexadecimal (take n text))
+is_scalar_text n text = nat_lt 0 n && nat_le n 8 && slice_index text n == close_brace && is_scalar (value_of base.Hexadecimal (take n text))
 
 -- the length of the escape that stands behind a backslash
 unfoldable pub escape_of : List ℕ → Option ℕ
 escape_of text = if is_escape (slice_index text 0) then Some 1
-    else if starts 117 123 text then when (is_scalar_text (run_of (class.Digits base.Hexadecimal) (drop 2 text)) (drop 2 text)) (run_of (class.Digits base.Hexadecimal) (drop 2 text) + 3)
+    else if starts letter_u open_brace text then when (is_scalar_text (run_of (class.Digits base.Hexadecimal) (drop 2 text)) (drop 2 text)) (run_of (class.Digits base.Hexadecimal) (drop 2 text) + 3)
     else None
 
 -- Where a string ends, of which n characters are read, and so many further ones are of an escape: behind its `"`.
 abbrev pub string_from : ℕ → ℕ → List ℕ → Option ℕ
 string_from n skip [] = None
 string_from n (suc skip) (c ∷ text) = string_from (n + 1) skip text
-string_from n zero (c ∷ text) = if c == 34 then Some (n + 1)
-    else if c == 10 then None
-    else if c == 92 then option_and_then (λ k. string_from (n + 1) k text) (escape_of text)
+string_from n zero (c ∷ text) = if c == quote then Some (n + 1)
+    else if c == line_feed then None
+    else if c == backslash then option_and_then (λ k. string_from (n + 1) k text) (escape_of text)
     else string_from (n + 1) 0 text
 
 -- a string, where the text does not begin with three `"`
 unfoldable pub string_of : List ℕ → Option ℕ
-string_of text = if slice_index text 1 == 34 && slice_index text 2 == 34 then None else string_from 1 0 (drop 1 text)
+string_of text = if slice_index text 1 == quote && slice_index text 2 == quote then None else string_from 1 0 (drop 1 text)
 
 -- the longest run of operator characters before a comment
 abbrev pub operator_run : List ℕ → ℕ
@@ -133,23 +134,23 @@ operator_of text = when (is_operator_word (take (operator_run text) text)) (oper
 
 -- the kinds of one character: ( ) { } , ; : . @ #
 abbrev pub mark_of : ℕ → Option TokenKind
-mark_of c = if c == 40 then Some kind.OpenParenthesis
-    else if c == 41 then Some kind.CloseParenthesis
-    else if c == 123 then Some kind.OpenBrace
-    else if c == 125 then Some kind.CloseBrace
-    else if c == 44 then Some kind.Comma
-    else if c == 59 then Some kind.Semicolon
-    else if c == 58 then Some kind.Colon
-    else if c == 46 then Some kind.Dot
-    else if c == 64 then Some kind.At
-    else if c == 35 then Some kind.Hash
+mark_of c = if c == open_parenthesis then Some kind.OpenParenthesis
+    else if c == close_parenthesis then Some kind.CloseParenthesis
+    else if c == open_brace then Some kind.OpenBrace
+    else if c == close_brace then Some kind.CloseBrace
+    else if c == comma then Some kind.Comma
+    else if c == semicolon then Some kind.Semicolon
+    else if c == colon then Some kind.Colon
+    else if c == dot then Some kind.Dot
+    else if c == at_sign then Some kind.At
+    else if c == hash then Some kind.Hash
     else None
 
 -- the token that is the front of a text, by its first character
 unfoldable pub first_of : List ℕ → Option (TokenKind × ℕ)
 first_of text = if begins_identifier (slice_index text 0) then Some (kind_of (take (run_behind class.Continuing text) text), run_behind class.Continuing text)
     else if is_ascii_digit (slice_index text 0) then option_map (λ n. (kind.Integer, n)) (integer_of text)
-    else if slice_index text 0 == 34 then option_map (λ n. (kind.String, n)) (string_of text)
+    else if slice_index text 0 == quote then option_map (λ n. (kind.String, n)) (string_of text)
     else if is_operator (slice_index text 0) then option_map (λ n. (kind.Operator, n)) (operator_of text)
     else option_map (λ k. (k, 1)) (mark_of (slice_index text 0))
 

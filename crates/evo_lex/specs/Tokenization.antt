@@ -8,6 +8,7 @@ use Rattle.evo_base.specs.declared.fault_kind.FaultKind.{FaultKind}
 use Rattle.evo_base.specs.declared.fault_kind.FaultKind.TheVariants as fault
 use Rattle.evo_base.specs.declared.token.TokenKind.{TokenKind}
 use Rattle.evo_base.specs.declared.token.Token.{Token}
+use Rattle.evo_lex.specs.Codes.{line_feed}
 use Rattle.evo_lex.specs.declared.spot.Position.{Position}
 use Rattle.evo_lex.specs.declared.front.Front.{Front}
 use Rattle.evo_lex.specs.declared.front.Front.TheVariants as front
@@ -19,7 +20,7 @@ origin = record { place = record { line = 1; col = 1 }; at = 0 }
 
 -- the place behind a character: a line ends at a line feed
 abbrev pub after_char : ℕ → Place → Place
-after_char c place = if c == 10 then record { line = place.line + 1; col = 1 } else record { line = place.line; col = place.col + 1 }
+after_char c place = if c == line_feed then record { line = place.line + 1; col = 1 } else record { line = place.line; col = place.col + 1 }
 
 -- the spot behind a character
 abbrev pub behind : ℕ → Position → Position

@@ -10,8 +10,8 @@ use crate::label::print_named;
 use crate::part::{Part, print_all};
 use crate::printer::Printer;
 use crate::statement::print_stmt;
-use evo_base::Name;
-use evo_tree::{Form, Identifier, Item, Module, ModuleTree, Release};
+use evo_base::{Name, Release};
+use evo_tree::{Form, Identifier, Item, Module, ModuleTree};
 use std::alloc::{AllocError, Global};
 
 impl Part for Item {
@@ -19,7 +19,7 @@ impl Part for Item {
 
     fn print(&self, out: &mut Printer) -> Result<(), AllocError> {
         match self {
-            Item::Decl(decl) => print_decl(out, decl, 0),
+            Item::Decl(decl) => print_decl(out, decl.get(), 0),
             Item::Stmt(stmt) => print_stmt(out, stmt, 0),
         }
     }

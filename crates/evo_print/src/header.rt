@@ -7,10 +7,10 @@ use crate::label::{print_label, print_typed};
 use crate::part::{Part, print_joined, print_optional, print_unless_empty};
 use crate::printer::Printer;
 use crate::words;
-use evo_base::List;
+use evo_base::{List, Release};
 use evo_tree::{
     Attr, AttrKind, Availability, GenericParameter, Header, Modifier, Parameter, ParameterLabel,
-    Payload, Release, Requirement, TypeName,
+    Payload, Requirement, TypeName,
 };
 use std::alloc::AllocError;
 

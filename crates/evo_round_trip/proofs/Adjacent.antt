@@ -3,6 +3,7 @@ use Rattle.std.proofs.Common.{◌≡◌, ℕ, List, [], ◌∷◌, ◌++◌, map
 use Rattle.std.specs.Prelude.{◌&&◌, ◌||◌, ◌==◌, not}
 use Rattle.std.specs.List.{list_all}
 use Rattle.std.specs.Str.{bytes_eq}
+use Rattle.std.proofs.lemmas.Bool.{and_from, and_parts, or_right}
 use Rattle.evo_base.specs.declared.token.TokenKind.{TokenKind}
 use Rattle.evo_base.specs.declared.token.TokenKind.TheVariants as kind
 use Rattle.evo_combinators.specs.Rule.{Empty, TokenThen, Then, Many}
@@ -19,7 +20,7 @@ use Rattle.evo_round_trip.proofs.Written.{Written, Sound, joined, breaks, is_non
 use Rattle.evo_round_trip.proofs.Matching.{Fits, AllFit, Has, FromText}
 use Rattle.evo_round_trip.proofs.Printed.{Text, any, any_begins, begins, begins_within, begins_left, begins_append, is_free, Matched, all_matched, firm_parts, genuine_left, genuine_right, joined_append}
 use Rattle.evo_round_trip.proofs.Prints.{Prints, Alone, Both}
-use Rattle.evo_round_trip.proofs.Heads.{is_calm, and_left, and_right, both_true, or_right, given_calm}
+use Rattle.evo_round_trip.proofs.Heads.{is_calm, given_calm}
 
 -- ---- written tokens
 
@@ -36,16 +37,16 @@ abbrev pub is_marked : Written → Bool
 is_marked w = is_calm w && is_mark w.kind
 
 pub snug_calm : (w : Written) → is_snug w ≡ true → is_calm w ≡ true
-snug_calm w h = and_left (is_calm w) (not (is_wordy w.kind)) h
+snug_calm w h = (and_parts (is_calm w) (not (is_wordy w.kind)) h).0
 
 pub worded_calm : (w : Written) → is_worded w ≡ true → is_calm w ≡ true
-worded_calm w h = and_left (is_calm w) (is_wordy w.kind) h
+worded_calm w h = (and_parts (is_calm w) (is_wordy w.kind) h).0
 
 pub marked_free : (w : Written) → is_marked w ≡ true → is_free w ≡ true
-marked_free w h = or_right _ _ (both_true (is_mark w.kind) (is_unattached w.role) (and_right (is_calm w) (is_mark w.kind) h) (and_right (is_none w.gap) (is_unattached w.role) (and_left (is_calm w) (is_mark w.kind) h)))
+marked_free w h = or_right _ _ (and_from (is_mark w.kind) (is_unattached w.role) (and_parts (is_calm w) (is_mark w.kind) h).1 (and_parts (is_none w.gap) (is_unattached w.role) (and_parts (is_calm w) (is_mark w.kind) h).0).1)
 
 pub marked_snug : (w : Written) → is_marked w ≡ true → is_snug w ≡ true
-marked_snug w h = both_true (is_calm w) (not (is_wordy w.kind)) (and_left (is_calm w) (is_mark w.kind) h) (go w.kind (and_right (is_calm w) (is_mark w.kind) h))
+marked_snug w h = and_from (is_calm w) (not (is_wordy w.kind)) (and_parts (is_calm w) (is_mark w.kind) h).0 (go w.kind (and_parts (is_calm w) (is_mark w.kind) h).1)
   where
     go : (k : TokenKind) → is_mark k ≡ true → not (is_wordy k) ≡ true
     go kind.Identifier m = absurd (cc)
@@ -64,7 +65,7 @@ wordy_parts _ k' h n = absurd (cc)
 -- a token without a role stands before what parts from it and has none
 parted : (v w : Written) (r : Role) → parts_from v.kind w.kind ≡ true → v.role ≡ r → is_unattached r ≡ true → is_calm w ≡ true → leads v (w ∷ []) ≡ true
 parted v w role.Unattached apart is u calm =
-    both_true _ _ (or_right _ _ apart) (both_true _ _ (ap (λ r. keeps_role r v.text w) is) (given_calm v.kind w w.role (and_right (is_none w.gap) (is_unattached w.role) calm)))
+    and_from _ _ (or_right _ _ apart) (and_from _ _ (ap (λ r. keeps_role r v.text w) is) (given_calm v.kind w w.role (and_parts (is_none w.gap) (is_unattached w.role) calm).1))
 parted v w role.Infix apart is u calm = absurd (cc)
 parted v w role.Prefix apart is u calm = absurd (cc)
 parted v w role.Negative apart is u calm = absurd (cc)
@@ -72,12 +73,12 @@ parted v w role.Negative apart is u calm = absurd (cc)
 -- a word stands before what is snug
 pub leads_snug : (e : Bool) (v : Written) (ws : List Written) → is_wordy v.kind ≡ true → is_unattached v.role ≡ true → begins e is_snug ws ≡ true → leads v ws ≡ true
 leads_snug e v [] word u h = u
-leads_snug e v (w ∷ ws) word u h = parted v w v.role (wordy_parts v.kind w.kind word (and_right (is_calm w) (not (is_wordy w.kind)) h)) refl u (snug_calm w h)
+leads_snug e v (w ∷ ws) word u h = parted v w v.role (wordy_parts v.kind w.kind word (and_parts (is_calm w) (not (is_wordy w.kind)) h).1) refl u (snug_calm w h)
 
 -- an operator without a role stands before a word
 pub leads_worded : (e : Bool) (v : Written) (ws : List Written) → is_operator_kind v.kind ≡ true → is_unattached v.role ≡ true → begins e is_worded ws ≡ true → leads v ws ≡ true
 leads_worded e v [] operator u h = u
-leads_worded e v (w ∷ ws) operator u h = parted v w v.role (parts v.kind w.kind operator (and_right (is_calm w) (is_wordy w.kind) h)) refl u (worded_calm w h)
+leads_worded e v (w ∷ ws) operator u h = parted v w v.role (parts v.kind w.kind operator (and_parts (is_calm w) (is_wordy w.kind) h).1) refl u (worded_calm w h)
   where
     parts : (k k' : TokenKind) → is_operator_kind k ≡ true → is_wordy k' ≡ true → parts_from k k' ≡ true
     parts kind.Operator kind.Operator o h = absurd (cc)
@@ -167,7 +168,7 @@ is_head_terminal k = number_of k == number_of t.Identifier || number_of k == num
 
 never_head : (rows : List (List ℕ × Terminal)) (text : List ℕ) → list_all (λ row. not (is_head_terminal row.1)) rows ≡ true → not (is_head_terminal (terminal_in rows text)) ≡ true
 never_head [] text h = refl
-never_head (row ∷ rows) text h = go (bytes_eq row.0 text) (terminal_in rows text) (and_left _ _ h) (never_head rows text (and_right _ _ h))
+never_head (row ∷ rows) text h = go (bytes_eq row.0 text) (terminal_in rows text) (and_parts _ _ h).0 (never_head rows text (and_parts _ _ h).1)
   where
     go : (b : Bool) (k : Terminal) → not (is_head_terminal row.1) ≡ true → not (is_head_terminal k) ≡ true → not (is_head_terminal (cond b row.1 k)) ≡ true
     go true k here there = here

@@ -5,7 +5,7 @@ use Rattle.std.specs.List.{list_all}
 use Rattle.std.specs.Char.{is_ascii_digit}
 use Rattle.std.specs.Str.{bytes_eq}
 use Rattle.std.proofs.lemmas.Slice.Eq.{bytes_eq-Decides}
-use Rattle.std.proofs.lemmas.Bool.{leb-true}
+use Rattle.std.proofs.lemmas.Bool.{leb-true, or_left, or_right}
 use Rattle.evo_base.specs.declared.place.Place.{Place}
 use Rattle.evo_combinators.specs.Rule.{Empty, Fail, TokenThen, Or, Then, Many}
 use Rattle.evo_lex.specs.Front.{integer_value}
@@ -21,7 +21,6 @@ use Rattle.evo_tree.specs.Expressions.{Rule, Nested, chain, members, one_operand
 use Rattle.evo_tree.specs.Declarations.{is_get}
 use Rattle.evo_tree.specs.Canonical.{Text, expr_text}
 use Rattle.evo_print.proofs.ExpressionTexts.{super_text, implicit_text, parenthesised_text, sign_text, path_text, chain_text}
-use Rattle.evo_round_trip.proofs.Heads.{or_left, or_right}
 use Rattle.evo_parse_expr.proofs.Tests.{when_some, and_both, both_and, identifier_is}
 use Rattle.evo_round_trip.proofs.TokensOfIntegers.{all_digits}
 use Rattle.evo_round_trip.proofs.ExpressionTrees.{Argument, Call, name_is, integer_text, negative_text, string_is, boolean_is, self_is, self_type_is}
@@ -109,9 +108,6 @@ gets_or {S} {R} gs gr = record { holds = go }
     go : (us : List Piece) (x : Expr) → Or S R us x → IsGet x → is_lone_get us ≡ true
     go us x (inl s) is = gs.holds us x s is
     go us x (inr r) is = gr.holds us x r is
-
-gets_nothing : Gets Fail
-gets_nothing = record { holds = λ us x s is. absurd s }
 
 gets_never : {S : Rule Expr} → All NoGet S → Gets S
 gets_never never = record { holds = λ us x s is. absurd (never.holds us x s is) }

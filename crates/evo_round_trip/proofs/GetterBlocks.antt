@@ -5,6 +5,7 @@ use Rattle.std.specs.List.{flat_map}
 use Rattle.std.specs.Str.{bytes_eq}
 use Rattle.std.proofs.lemmas.Slice.Eq.{bytes_eq-Decides}
 use Rattle.std.proofs.lemmas.Bool.Decides.{Decides-eqb}
+use Rattle.std.proofs.lemmas.Bool.{and_from, and_parts}
 use Rattle.evo_base.specs.declared.place.Place.{Place}
 use Rattle.evo_combinators.specs.Guard.{On}
 use Rattle.evo_tree.specs.declared.statement.Block.{Block}
@@ -26,7 +27,7 @@ use Rattle.evo_round_trip.proofs.Prints.{Prints, Writes, Alone, Both, print_only
 use Rattle.evo_parse_expr.proofs.Tests.{and_both, same_terminal}
 use Rattle.evo_round_trip.proofs.Spellings.{sign}
 use Rattle.evo_round_trip.proofs.TakenTokens.{Anyhow, taken_mark}
-use Rattle.evo_round_trip.proofs.Heads.{is_head, head_flush, calm_head, apart_free, and_left, and_right, both_true, leads_apart, Begun, any_head}
+use Rattle.evo_round_trip.proofs.Heads.{is_head, head_flush, calm_head, apart_free, leads_apart, Begun, any_head}
 use Rattle.evo_round_trip.proofs.ExpressionTrees.{like_map}
 use Rattle.evo_round_trip.proofs.StatementTrees.{SameStmt, SameBlock, block_same}
 use Rattle.evo_round_trip.proofs.PrintedBlocks.{feed, indent_gap, Stated, statements_print, block_leaf}
@@ -52,8 +53,8 @@ starts_staying w = is_head w && stays (terminal_of w.kind w.text) w.text
 
 staying_begun : Begun is_staying starts_staying
 staying_begun = record {
-  first = λ u w passes same text calm start. both_true _ _ (calm_head w calm) (kept u w passes same text);
-  signed = λ u w passes is same head. both_true _ _ head (kept u w passes same (λ name. absurd (no_sign u is name)));
+  first = λ u w passes same text calm start. and_from _ _ (calm_head w calm) (kept u w passes same text);
+  signed = λ u w passes is same head. and_from _ _ head (kept u w passes same (λ name. absurd (no_sign u is name)));
 }
   where
     kept : (u : Piece) (w : Written) → is_staying u ≡ true → u.terminal ≡ terminal_of w.kind w.text → (u.terminal ≡ t.Identifier → u.text ≡ w.text) → stays (terminal_of w.kind w.text) w.text ≡ true
@@ -72,7 +73,7 @@ module _ (S : Rule Stmt) (law : Stated S) (n : ℕ) where
     holds = λ us x gen fst s.
         let (u, vs, at, passes, spelled) = s in
         let (ws, written, sound, begun, make) = (law n is_staying starts_staying staying_begun).holds us x gen (subst (λ z. begins true is_staying z ≡ true) (sym at) passes) spelled in
-        (ws, written, sound, begins_within false false starts_staying is_flush ws (λ h. h) (λ w h. head_flush w (and_left (is_head w) _ h)) begun, λ a near ms f. on x ws begun make ms f);
+        (ws, written, sound, begins_within false false starts_staying is_flush ws (λ h. h) (λ w h. head_flush w (and_parts (is_head w) _ h).0) begun, λ a near ms f. on x ws begun make ms f);
   }
     where
       on : (x : Stmt) (ws : List Written) → begins false starts_staying ws ≡ true → ((a : Unit {0}) → Alone a → (ms : List Piece) → Matched false ms ws → (x' : Stmt) × S ms x' × SameStmt x x') →
@@ -81,7 +82,7 @@ module _ (S : Rule Stmt) (law : Stated S) (n : ℕ) where
       on x (w ∷ ws) h make [] f = absurd f
       on x (w ∷ ws) h make (m ∷ ms) f =
           let (x', s', same) = make tt tt (m ∷ ms) f in
-          (x', (m, ms, refl, ap₂ stays f.0.terminal f.0.text ∙ and_right (is_head w) _ h, s'), same)
+          (x', (m, ms, refl, ap₂ stays f.0.terminal f.0.text ∙ (and_parts (is_head w) _ h).1, s'), same)
 
   -- on a line of its own
   stay_below : Writes true false is_apart (λ x. feed n ++ words_of x n) SameStmt (Stay S) (On is_below (Stay S))

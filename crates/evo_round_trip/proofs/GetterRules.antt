@@ -3,6 +3,7 @@
 use Rattle.std.proofs.Common.{◌≡◌, ℕ, zero, suc, List, [], ◌∷◌, ◌++◌, Bool, true, false, codes, Some, refl, sym, ◌∙◌, ap, subst, inl, inr, append_assoc}
 use Rattle.std.specs.Prelude.{◌||◌, ◌&&◌, ◌==◌, not}
 use Rattle.std.specs.Str.{bytes_eq}
+use Rattle.std.proofs.lemmas.Bool.{and_from, and_parts, not-true}
 use Rattle.evo_base.specs.declared.place.Place.{Place}
 use Rattle.evo_combinators.specs.Rule.{Empty, Fail, TokenThen, Or, Then}
 use Rattle.evo_combinators.specs.Guard.{On}
@@ -16,7 +17,6 @@ use Rattle.evo_tree.specs.Expressions.{Rule, Nested}
 use Rattle.evo_tree.specs.Statements.{is_below, is_later, Later, statement_at, Statements, BlockTail, BlockOf, block}
 use Rattle.evo_tree.specs.Declarations.{Unless, is_get, goes_on_get, begins_accessors}
 use Rattle.evo_round_trip.proofs.Printed.{begins}
-use Rattle.evo_round_trip.proofs.Heads.{and_left, and_right, both_true}
 use Rattle.evo_parse_expr.proofs.Tests.{is_same, mark_is}
 use Rattle.evo_round_trip.proofs.NameTails.{quiet, tailed, Tail}
 use Rattle.evo_round_trip.proofs.GetTexts.{is_lone_get}
@@ -58,10 +58,6 @@ quiet_stays u h = go (number_of u.terminal == number_of t.OpenBrace) (number_of 
 never_both : (b : Bool) → (b && false) ≡ false
 never_both true = refl
 never_both false = refl
-
-not_false : (b : Bool) → not b ≡ true → b ≡ false
-not_false true h = absurd (cc)
-not_false false h = refl
 
 behind_name : (v u : Piece) → (not (is_terminal t.Identifier v) || quiet u) ≡ true → (is_get v && goes_on_get u) ≡ false
 behind_name v u h = go (is_terminal t.Identifier v) refl h
@@ -121,7 +117,7 @@ module _ (S : Rule Stmt) where
 
   later_stays : (ys : List Piece) (y : Stmt) → Later S ys y → (more : List Piece) → begins true (λ u. not (goes_on_get u)) (ys ++ more) ≡ true → Stay ys y
   unfolding is_later
-  later_stays ys y (u, us, at, later, s) more next = (u, us, at, both_true _ _ later (subst (λ z. begins true (λ u. not (goes_on_get u)) (z ++ more) ≡ true) at next), s)
+  later_stays ys y (u, us, at, later, s) more next = (u, us, at, and_from _ _ later (subst (λ z. begins true (λ u. not (goes_on_get u)) (z ++ more) ≡ true) at next), s)
 
   split_further : (p : Place) (vs : List Piece) (b : Block) (x : Stmt) (xs : List Stmt) (first rest close : List Piece) → vs ≡ first ++ (rest ++ close) → S first x →
       begins true (λ u. not (goes_on_get u)) (rest ++ close) ≡ true → Statements S false rest xs → Closed p (x ∷ xs) close b → Further Stay p vs b
@@ -180,13 +176,13 @@ module _ (S : Rule Stmt) where
       (x ∷ xs, first ++ rest, close, at ∙ ap (λ z. first ++ z) at' ∙ sym (append_assoc first rest close), (first, rest, refl, s, many), led),
     )
     unsplit p vs b (inr (inr (x, first, more, at, s, (y, second, more', at', (v, us, at1, below, (w, ws, at2, stay, s2)), (ys, rest, close, at'', many, led))))) = (
-      ap begins_get (at ∙ ap (λ z. first ++ z) (at' ∙ ap (λ z. z ++ more') at2)) ∙ tailed_no_set first w (ws ++ more') (tail.holds first x s) (not_false (goes_on_get w) (and_right (not (is_terminal t.Dot w)) (not (goes_on_get w)) stay)),
+      ap begins_get (at ∙ ap (λ z. first ++ z) (at' ∙ ap (λ z. z ++ more') at2)) ∙ tailed_no_set first w (ws ++ more') (tail.holds first x s) (not-true (goes_on_get w) (and_parts (not (is_terminal t.Dot w)) (not (goes_on_get w)) stay).1),
       (
         x ∷ y ∷ ys,
         first ++ (second ++ rest),
         close,
         at ∙ ap (λ z. first ++ z) (at' ∙ ap (λ z. second ++ z) at'' ∙ sym (append_assoc second rest close)) ∙ sym (append_assoc first (second ++ rest) close),
-        (first, second ++ rest, refl, s, (second, rest, refl, inr (v, us, at1, below, (w, ws, at2, and_left (not (is_terminal t.Dot w)) (not (goes_on_get w)) stay, s2)), many)),
+        (first, second ++ rest, refl, s, (second, rest, refl, inr (v, us, at1, below, (w, ws, at2, (and_parts (not (is_terminal t.Dot w)) (not (goes_on_get w)) stay).0, s2)), many)),
         led,
       ),
     )

@@ -17,7 +17,7 @@ use Rattle.evo_lex.specs.Characters.{is_of}
 use Rattle.evo_lex.specs.Front.{front_of, white_of}
 use Rattle.evo_lex.specs.Tokenization.{CutFrom, beyond, behind}
 use Rattle.evo_lex.specs.Tokenization.CutFrom.{white}
-use Rattle.evo_tree.specs.declared.declaration.Release.{Release}
+use Rattle.evo_base.specs.declared.place.Release.{Release}
 use Rattle.evo_tree.specs.Canonical.{release_text, head_text}
 use Rattle.evo_round_trip.proofs.Written.{breaks}
 use Rattle.evo_round_trip.proofs.FirstCharacters.{at_front}

@@ -1,5 +1,6 @@
 -- How written tokens begin, and before what each kind of token may stand.
 use Rattle.std.proofs.Common.{◌≡◌, List, [], ◌∷◌, Bool, true, false, not, ◌&&◌, ◌||◌, ◌==◌, refl, ◌∙◌, ap, subst}
+use Rattle.std.proofs.lemmas.Bool.{and_from, and_parts, or_left, or_right}
 use Rattle.evo_base.specs.declared.token.TokenKind.{TokenKind}
 use Rattle.evo_base.specs.declared.token.TokenKind.TheVariants as kind
 use Rattle.evo_tree.specs.declared.terminal.Role.{Role}
@@ -27,34 +28,14 @@ is_head w = is_none w.gap && is_not_infix w.role
 abbrev pub is_calm : Written → Bool
 is_calm w = is_none w.gap && is_unattached w.role
 
-pub and_left : (a b : Bool) → (a && b) ≡ true → a ≡ true
-and_left true b h = refl
-and_left false b h = absurd (cc)
-
-pub and_right : (a b : Bool) → (a && b) ≡ true → b ≡ true
-and_right true b h = h
-and_right false b h = absurd (cc)
-
-pub both_true : (a b : Bool) → a ≡ true → b ≡ true → (a && b) ≡ true
-both_true true b h k = k
-both_true false b h k = absurd (cc)
-
-pub or_left : (a b : Bool) → a ≡ true → (a || b) ≡ true
-or_left true b h = refl
-or_left false b h = absurd (cc)
-
-pub or_right : (a b : Bool) → b ≡ true → (a || b) ≡ true
-or_right true b h = refl
-or_right false b h = h
-
 pub head_flush : (w : Written) → is_head w ≡ true → is_flush w ≡ true
-head_flush w h = and_left (is_none w.gap) (is_not_infix w.role) h
+head_flush w h = (and_parts (is_none w.gap) (is_not_infix w.role) h).0
 
 pub calm_flush : (w : Written) → is_calm w ≡ true → is_flush w ≡ true
-calm_flush w h = and_left (is_none w.gap) (is_unattached w.role) h
+calm_flush w h = (and_parts (is_none w.gap) (is_unattached w.role) h).0
 
 pub calm_head : (w : Written) → is_calm w ≡ true → is_head w ≡ true
-calm_head w h = both_true (is_none w.gap) (is_not_infix w.role) (calm_flush w h) (go w.role (and_right (is_none w.gap) (is_unattached w.role) h))
+calm_head w h = and_from (is_none w.gap) (is_not_infix w.role) (calm_flush w h) (go w.role (and_parts (is_none w.gap) (is_unattached w.role) h).1)
   where
     go : (r : Role) → is_unattached r ≡ true → is_not_infix r ≡ true
     go role.Unattached h = refl
@@ -82,12 +63,12 @@ given_apart k w h role.Negative = or_left _ _ h
 pub leads_infix : (v : Written) (ws : List Written) → v.role ≡ role.Infix → begins false is_apart ws ≡ true → leads v ws ≡ true
 leads_infix v [] is h = absurd (cc)
 leads_infix v (w ∷ ws) is h =
-    both_true _ _ (or_left _ _ h) (both_true _ _ (ap (λ r. keeps_role r v.text w) is ∙ h) (given_apart v.kind w h w.role))
+    and_from _ _ (or_left _ _ h) (and_from _ _ (ap (λ r. keeps_role r v.text w) is ∙ h) (given_apart v.kind w h w.role))
 
 -- a parenthesis stands before what begins an expression
 pub leads_open : (e : Bool) (ws : List Written) → begins e is_head ws ≡ true → leads (sign [] t.OpenParenthesis) ws ≡ true
 leads_open e [] h = refl
-leads_open e (w ∷ ws) h = both_true _ _ (or_right _ _ refl) (given w.role (and_right (is_none w.gap) (is_not_infix w.role) h))
+leads_open e (w ∷ ws) h = and_from _ _ (or_right _ _ refl) (given w.role (and_parts (is_none w.gap) (is_not_infix w.role) h).1)
   where
     given : (r : Role) → is_not_infix r ≡ true → gives_role kind.OpenParenthesis w r ≡ true
     given role.Unattached i = refl
@@ -111,7 +92,7 @@ kept_calm v w role.Negative h = absurd (cc)
 pub leads_calm : (e : Bool) (v : Written) (ws : List Written) → ((k : TokenKind) → parts_from v.kind k ≡ true) → is_unattached v.role ≡ true → begins e is_calm ws ≡ true → leads v ws ≡ true
 leads_calm e v [] m u h = u
 leads_calm e v (w ∷ ws) m u h =
-    both_true _ _ (or_right _ _ (m w.kind)) (both_true _ _ (kept_calm v w v.role u) (given_calm v.kind w w.role (and_right (is_none w.gap) (is_unattached w.role) h)))
+    and_from _ _ (or_right _ _ (m w.kind)) (and_from _ _ (kept_calm v w v.role u) (given_calm v.kind w w.role (and_parts (is_none w.gap) (is_unattached w.role) h).1))
 
 pub leads_dot : (e : Bool) (ws : List Written) → begins e is_calm ws ≡ true → leads (sign [] t.Dot) ws ≡ true
 leads_dot e ws h = leads_calm e (sign [] t.Dot) ws (λ k. refl) refl h
@@ -123,9 +104,9 @@ is_number w = is_calm w && is_integer_kind w.kind
 pub leads_minus : (ws : List Written) → begins false is_number ws ≡ true → leads (minus []) ws ≡ true
 leads_minus [] h = absurd (cc)
 leads_minus (w ∷ ws) h =
-    let calm : is_calm w ≡ true = and_left (is_calm w) (is_integer_kind w.kind) h in
-    let number : is_integer_kind w.kind ≡ true = and_right (is_calm w) (is_integer_kind w.kind) h in
-    both_true _ _ (or_right _ _ (parts w.kind number)) (both_true _ _ (both_true _ _ (both_true _ true (calm_flush w calm) refl) number) (given_calm kind.Operator w w.role (and_right (is_none w.gap) (is_unattached w.role) calm)))
+    let calm : is_calm w ≡ true = (and_parts (is_calm w) (is_integer_kind w.kind) h).0 in
+    let number : is_integer_kind w.kind ≡ true = (and_parts (is_calm w) (is_integer_kind w.kind) h).1 in
+    and_from _ _ (or_right _ _ (parts w.kind number)) (and_from _ _ (and_from _ _ (and_from _ true (calm_flush w calm) refl) number) (given_calm kind.Operator w w.role (and_parts (is_none w.gap) (is_unattached w.role) calm).1))
   where
     parts : (k : TokenKind) → is_integer_kind k ≡ true → parts_from kind.Operator k ≡ true
     parts kind.Integer i = refl
@@ -173,6 +154,6 @@ is_no_dot w = is_head w && not (number_of (terminal_of w.kind w.text) == number_
 pub later_begun : Begun is_later is_no_dot
 unfolding is_later
 later_begun = record {
-  first = λ u w passes same text calm start. both_true _ _ (calm_head w calm) (subst (λ k. not (number_of k == number_of t.Dot) ≡ true) same passes);
-  signed = λ u w passes is same head. both_true _ _ head (subst (λ k. not (number_of k == number_of t.Dot) ≡ true) same passes);
+  first = λ u w passes same text calm start. and_from _ _ (calm_head w calm) (subst (λ k. not (number_of k == number_of t.Dot) ≡ true) same passes);
+  signed = λ u w passes is same head. and_from _ _ head (subst (λ k. not (number_of k == number_of t.Dot) ≡ true) same passes);
 }

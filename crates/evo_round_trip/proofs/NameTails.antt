@@ -1,6 +1,7 @@
 -- What may stand behind a name that begins an expression or a statement: `(`, `.` or an operator, and no name, brace or semicolon.
 use Rattle.std.proofs.Common.{◌≡◌, ℕ, zero, suc, List, [], ◌∷◌, ◌++◌, Bool, true, false, Option, Some, None, refl, ◌∙◌, ap, cond, inl, inr}
 use Rattle.std.specs.Prelude.{◌||◌, ◌==◌, not}
+use Rattle.std.proofs.lemmas.Bool.{or_right}
 use Rattle.evo_base.specs.declared.place.Place.{Place}
 use Rattle.evo_combinators.specs.Rule.{Empty, Fail, TokenThen, Or, Then, Many}
 use Rattle.evo_tree.specs.declared.expression.InfixOperator.{InfixOperator}
@@ -19,7 +20,6 @@ use Rattle.evo_tree.specs.Pieces.{Piece, is_terminal, has_role, placed, mark, id
 use Rattle.evo_tree.specs.Expressions.{Rule, Nested, infix_by, multiplying, adding, comparing, conjoining, disjoining, Arguments, Primary, Postfix, UnaryOf, Unary, Chain, Pair, Levels, IsExpr}
 use Rattle.evo_tree.specs.Statements.{introduced, introduces, assigning, assigns, is_target, assigns_to, Action, StmtOf, IsCall, IsStmt}
 use Rattle.evo_round_trip.proofs.Printed.{begins, begins_after}
-use Rattle.evo_round_trip.proofs.Heads.{or_right}
 use Rattle.evo_parse_expr.proofs.Tests.{is_same, same_terminal, mark_is, call_number, integer_number, string_number, negative_number}
 use Rattle.evo_round_trip.proofs.TakenTokens.{sign_terminal, sign_shown}
 

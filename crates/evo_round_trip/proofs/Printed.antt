@@ -61,12 +61,6 @@ all_matched firm [] (w ∷ ws) f = absurd f
 all_matched firm (m ∷ ms) [] f = absurd f
 all_matched firm (m ∷ ms) (w ∷ ws) f = (loosely firm m w f.0, f.1)
 
-pub matched_fit : (ms : List Piece) (ws : List Written) → Matched true ms ws → AllFit ms ws
-matched_fit [] [] f = tt
-matched_fit [] (w ∷ ws) f = absurd f
-matched_fit (m ∷ ms) [] f = absurd f
-matched_fit (m ∷ ms) (w ∷ ws) f = f
-
 fit_parts : (ms : List Piece) (xs ys : List Written) → AllFit ms (xs ++ ys) → (ns : List Piece) × (ps : List Piece) × (ms ≡ ns ++ ps) × AllFit ns xs × AllFit ps ys
 fit_parts ms [] ys f = ([], ms, refl, tt, f)
 fit_parts [] (x ∷ xs) ys f = absurd f

@@ -4,6 +4,7 @@ use Rattle.std.specs.Prelude.{◌==◌}
 use Rattle.std.specs.List.{flat_map, filter}
 use Rattle.std.specs.Str.{bytes_eq}
 use Rattle.std.proofs.lemmas.List.{map-append}
+use Rattle.std.proofs.lemmas.Bool.{not-true}
 use Rattle.evo_base.specs.declared.place.Place.{Place}
 use Rattle.evo_lex.specs.Front.{when}
 use Rattle.evo_tree.specs.declared.declaration.AttrKind.{AttrKind}
@@ -63,16 +64,12 @@ word_means : (s : List Attr) (u : Piece) (k : AttrKind) → attribute_word s u �
 unfolding attribute_word
 word_means s u k e = go (is_terminal t.Identifier u) refl (attribute_of u.text) refl e
   where
-    off : (b : Bool) → not b ≡ true → b ≡ false
-    off true h = absurd (cc)
-    off false h = refl
-
     go : (b : Bool) → is_terminal t.Identifier u ≡ b → (o : Option AttrKind) → attribute_of u.text ≡ o → cond b (unless_attribute s o) None ≡ Some k → (is_terminal t.Identifier u ≡ true) × (attribute_of u.text ≡ Some k) × (has_attribute k s ≡ false)
     go false i o j e = absurd (cc)
     go true i None j e = absurd (cc)
     go true i (Some l) j e =
         let (test, is) = when_some (not (has_attribute l s)) l k e in
-        (i, j ∙ ap (λ z. Some z) is, subst (λ z. has_attribute z s ≡ false) is (off (has_attribute l s) test))
+        (i, j ∙ ap (λ z. Some z) is, subst (λ z. has_attribute z s ≡ false) is (not-true (has_attribute l s) test))
 
 word_again : (s : List Attr) (u : Piece) (k : AttrKind) → is_terminal t.Identifier u ≡ true → attribute_of u.text ≡ Some k → has_attribute k s ≡ false → attribute_word s u ≡ Some k
 unfolding attribute_word

@@ -2,6 +2,7 @@
 use Rattle.std.proofs.Common.{◌≡◌, ℕ, zero, suc, ◌+◌, List, [], ◌∷◌, ◌++◌, Bool, true, false, codes, refl, sym, ◌∙◌, ap, ap₂, subst, inl, inr, append_assoc}
 use Rattle.std.specs.Prelude.{◌==◌, not}
 use Rattle.std.specs.List.{flat_map}
+use Rattle.std.proofs.lemmas.Bool.{and_parts}
 use Rattle.evo_base.specs.declared.place.Place.{Place}
 use Rattle.evo_combinators.specs.Guard.{On}
 use Rattle.evo_round_trip.proofs.Alike.{AllLike}
@@ -20,7 +21,7 @@ use Rattle.evo_round_trip.proofs.Printed.{any, begins, is_apart, is_flush, is_fr
 use Rattle.evo_round_trip.proofs.Prints.{Prints, Writes, Alone, print_only, print_nothing, print_or, print_led, print_nested, print_after, print_run, print_firm, print_more, print_behind, print_on}
 use Rattle.evo_round_trip.proofs.Spellings.{sign}
 use Rattle.evo_round_trip.proofs.TakenTokens.{taken_mark}
-use Rattle.evo_round_trip.proofs.Heads.{is_head, head_flush, apart_free, and_left, and_right, leads_apart, Begun, any_head, is_no_dot, later_begun}
+use Rattle.evo_round_trip.proofs.Heads.{is_head, head_flush, apart_free, leads_apart, Begun, any_head, is_no_dot, later_begun}
 use Rattle.evo_round_trip.proofs.ExpressionTrees.{like_map}
 use Rattle.evo_round_trip.proofs.StatementTrees.{SameStmt, SameBlock, stmt_line, block_is, block_same}
 
@@ -65,7 +66,7 @@ module _ (S : Rule Stmt) (law : Stated S) (n : ℕ) where
     holds = λ us x gen fst s.
         let (u, vs, at, passes, spelled) = s in
         let (ws, written, sound, begun, make) = (law n is_later is_no_dot later_begun).holds us x gen (subst (λ z. begins true is_later z ≡ true) (sym at) passes) spelled in
-        (ws, written, sound, begins_within false false is_no_dot is_flush ws (λ h. h) (λ w h. head_flush w (and_left (is_head w) _ h)) begun, λ a near ms f. on x ws begun make ms f);
+        (ws, written, sound, begins_within false false is_no_dot is_flush ws (λ h. h) (λ w h. head_flush w (and_parts (is_head w) _ h).0) begun, λ a near ms f. on x ws begun make ms f);
   }
     where
       on : (x : Stmt) (ws : List Written) → begins false is_no_dot ws ≡ true → ((a : Unit {0}) → Alone a → (ms : List Piece) → Matched false ms ws → (x' : Stmt) × S ms x' × SameStmt x x') →
@@ -74,7 +75,7 @@ module _ (S : Rule Stmt) (law : Stated S) (n : ℕ) where
       on x (w ∷ ws) h make [] f = absurd f
       on x (w ∷ ws) h make (m ∷ ms) f =
           let (x', s', same) = make tt tt (m ∷ ms) f in
-          (x', (m, ms, refl, subst (λ k. not (number_of k == number_of t.Dot) ≡ true) (sym f.0.terminal) (and_right (is_head w) _ h), s'), same)
+          (x', (m, ms, refl, subst (λ k. not (number_of k == number_of t.Dot) ≡ true) (sym f.0.terminal) (and_parts (is_head w) _ h).1, s'), same)
 
   further_prints : Writes true false is_apart below SameStmt (Later S) (On is_below (Later S))
   unfolding is_below

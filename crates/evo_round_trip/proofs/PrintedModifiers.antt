@@ -3,6 +3,7 @@ use Rattle.std.proofs.Common.{◌≡◌, ℕ, ◌-◌, List, [], ◌∷◌, ◌+
 use Rattle.std.specs.Prelude.{◌==◌}
 use Rattle.std.specs.List.{flat_map, filter, list_any}
 use Rattle.std.proofs.lemmas.Bool.Decides.{Decides-eqb}
+use Rattle.std.proofs.lemmas.Bool.{not-true}
 use Rattle.evo_base.specs.declared.place.Place.{Place}
 use Rattle.evo_combinators.specs.Rule.{One}
 use Rattle.evo_lex.specs.Front.{when}
@@ -75,11 +76,7 @@ word_means : (s : List Modifier) (p : Place) (o : Option ModifierKind) (m : Modi
 word_means s p None m e = absurd (cc)
 word_means s p (Some k) m e =
     let (test, is) = when_some (not (has_modifier k s)) (record { place = p; kind = k }) m e in
-    (ap (λ (z : Modifier). Some z) is, subst (λ (z : Modifier). has_modifier z.kind s ≡ false) is (off (has_modifier k s) test))
-  where
-    off : (b : Bool) → not b ≡ true → b ≡ false
-    off true h = absurd (cc)
-    off false h = refl
+    (ap (λ (z : Modifier). Some z) is, subst (λ (z : Modifier). has_modifier z.kind s ≡ false) is (not-true (has_modifier k s) test))
 
 word_again : (s : List Modifier) (p : Place) (o : Option ModifierKind) (m : Modifier) → unless_modifier [] p o ≡ Some m → has_modifier m.kind s ≡ false → unless_modifier s p o ≡ Some m
 word_again s p None m e none = absurd (cc)

@@ -4,6 +4,7 @@ use Rattle.std.specs.Prelude.{◌&&◌, not}
 use Rattle.std.specs.List.{flat_map, join_by}
 use Rattle.std.specs.Option.{option_map}
 use Rattle.std.specs.Fmt.{decimal}
+use Rattle.std.proofs.lemmas.Bool.{and_from, and_parts, or_left, or_right}
 use Rattle.evo_base.specs.declared.place.Place.{Place}
 use Rattle.evo_base.specs.declared.token.TokenKind.{TokenKind}
 use Rattle.evo_base.specs.declared.token.TokenKind.TheVariants as kind
@@ -34,7 +35,7 @@ use Rattle.evo_parse_expr.proofs.Tests.{number_is}
 use Rattle.evo_round_trip.proofs.Spellings.{sign, named, numeral, quoted}
 use Rattle.evo_round_trip.proofs.Tokens.{spelling, kind_for, has_spelling, spelled_is}
 use Rattle.evo_round_trip.proofs.TakenTokens.{minus, prefixed, prefixed_terminal, sign_terminal, sign_shown, taken_sign, taken_mark, taken_name, taken_call, taken_integer, taken_string, taken_negative}
-use Rattle.evo_round_trip.proofs.Heads.{is_head, is_calm, head_flush, apart_free, leads_apart, leads_open, leads_dot, leads_minus, is_number, is_start, or_left, Begun, any_head, and_left, and_right, both_true, or_right, calm_flush, given_calm, start_parts, start_opens}
+use Rattle.evo_round_trip.proofs.Heads.{is_head, is_calm, head_flush, apart_free, leads_apart, leads_open, leads_dot, leads_minus, is_number, is_start, Begun, any_head, calm_flush, given_calm, start_parts, start_opens}
 use Rattle.evo_round_trip.proofs.ExpressionTrees.{SameExpr, like_map, name_is, integer_text, negative_text, string_is, boolean_is, self_is, self_type_is, integer_same, negative_same, string_same, boolean_same, self_same, self_type_same}
 use Rattle.evo_round_trip.proofs.PrintedExpressions.{Expressed, expressed_behind, levels_expressed}
 
@@ -219,29 +220,29 @@ no_contradiction false h k = absurd (cc)
 
 after_sign : (o : PrefixOperator) → Begun (after o) (follows o)
 after_sign prefix.Minus = record {
-  first = λ u w passes same text calm start. both_true _ _ (both_true _ _ calm start) (go u w.kind w.text same (and_right (not (is_sign u)) _ passes));
-  signed = λ u w passes is same head. absurd (no_contradiction (is_sign u) (and_left (not (is_sign u)) _ passes) is);
+  first = λ u w passes same text calm start. and_from _ _ (and_from _ _ calm start) (go u w.kind w.text same (and_parts (not (is_sign u)) _ passes).1);
+  signed = λ u w passes is same head. absurd (no_contradiction (is_sign u) (and_parts (not (is_sign u)) _ passes).0 is);
 }
   where
     go : (u : Piece) (k : TokenKind) (text : List ℕ) → u.terminal ≡ terminal_of k text → not (is_terminal t.Integer u) ≡ true → not (is_integer_kind k) ≡ true
     go u kind.Integer text same other = absurd (no_contradiction (is_terminal t.Integer u) other (number_is t.Integer u (ap number_of same)))
     go u _ text same other = refl
 after_sign prefix.Not = record {
-  first = λ u w passes same text calm start. both_true _ _ calm start;
+  first = λ u w passes same text calm start. and_from _ _ calm start;
   signed = λ u w passes is same head. absurd (no_contradiction (is_sign u) passes is);
 }
 
 leads_sign : (o : PrefixOperator) (ws : List Written) → begins false (follows o) ws ≡ true → leads (prefixed o) ws ≡ true
 leads_sign o [] h = absurd (cc)
 leads_sign prefix.Minus (w ∷ ws) h =
-    let both : (is_calm w && is_start w.kind) ≡ true = and_left _ (not (is_integer_kind w.kind)) h in
-    let calm : is_calm w ≡ true = and_left (is_calm w) (is_start w.kind) both in
-    let start : is_start w.kind ≡ true = and_right (is_calm w) (is_start w.kind) both in
-    both_true _ _ (or_right _ _ (start_parts w.kind start)) (both_true _ _ (both_true _ _ (both_true _ _ (calm_flush w calm) (start_opens w.kind start)) (and_right _ (not (is_integer_kind w.kind)) h)) (given_calm kind.Operator w w.role (and_right (is_none w.gap) (is_unattached w.role) calm)))
+    let both : (is_calm w && is_start w.kind) ≡ true = (and_parts _ (not (is_integer_kind w.kind)) h).0 in
+    let calm : is_calm w ≡ true = (and_parts (is_calm w) (is_start w.kind) both).0 in
+    let start : is_start w.kind ≡ true = (and_parts (is_calm w) (is_start w.kind) both).1 in
+    and_from _ _ (or_right _ _ (start_parts w.kind start)) (and_from _ _ (and_from _ _ (and_from _ _ (calm_flush w calm) (start_opens w.kind start)) (and_parts _ (not (is_integer_kind w.kind)) h).1) (given_calm kind.Operator w w.role (and_parts (is_none w.gap) (is_unattached w.role) calm).1))
 leads_sign prefix.Not (w ∷ ws) h =
-    let calm : is_calm w ≡ true = and_left (is_calm w) (is_start w.kind) h in
-    let start : is_start w.kind ≡ true = and_right (is_calm w) (is_start w.kind) h in
-    both_true _ _ (or_right _ _ (start_parts w.kind start)) (both_true _ _ (both_true _ _ (both_true _ _ (calm_flush w calm) (start_opens w.kind start)) refl) (given_calm kind.Operator w w.role (and_right (is_none w.gap) (is_unattached w.role) calm)))
+    let calm : is_calm w ≡ true = (and_parts (is_calm w) (is_start w.kind) h).0 in
+    let start : is_start w.kind ≡ true = (and_parts (is_calm w) (is_start w.kind) h).1 in
+    and_from _ _ (or_right _ _ (start_parts w.kind start)) (and_from _ _ (and_from _ _ (and_from _ _ (calm_flush w calm) (start_opens w.kind start)) refl) (given_calm kind.Operator w w.role (and_parts (is_none w.gap) (is_unattached w.role) calm).1))
 
 signs_next : (u : Piece) (vs : List Piece) (c : Place × PrefixOperator) → pieces.sign u ≡ Some c → FromText (u ∷ vs) → begins true (after c.1) vs ≡ true
 signs_next u [] c takes gen = refl
@@ -250,12 +251,12 @@ signs_next u (v ∷ vs) c takes gen =
     go c.1 terminal role
   where
     attached : is_sign u ≡ true → has_role role.Prefix u ≡ true → is_attached u ≡ true
-    attached s r = both_true _ _ s (or_left _ _ r)
+    attached s r = and_from _ _ s (or_left _ _ r)
 
     go : (o : PrefixOperator) → u.terminal ≡ sign_terminal o → has_role role.Prefix u ≡ true → after o v ≡ true
     go prefix.Minus is r =
         let minus : is_terminal t.Minus u ≡ true = number_is t.Minus u (ap number_of is) in
-        both_true _ _ (ap not (gen.1.0 (attached (or_left _ _ minus) r))) (ap not (gen.1.1 (both_true _ _ minus r)))
+        and_from _ _ (ap not (gen.1.0 (attached (or_left _ _ minus) r))) (ap not (gen.1.1 (and_from _ _ minus r)))
     go prefix.Not is r = ap not (gen.1.0 (attached (or_right _ _ (number_is t.Not u (ap number_of is))) r))
 
 module _ (d : ℕ) (I O : Rule Expr) (law : Expressed I) (operand : Expressed O) where

@@ -1,6 +1,7 @@
 -- Generics and parameters of headers are written.
 use Rattle.std.proofs.Common.{◌≡◌, ℕ, List, [], ◌++◌, true, false, codes, Some, refl, sym, ◌∙◌, ap, ap₂, subst, inl, inr, append_assoc, append-nil}
 use Rattle.std.specs.Prelude.{not}
+use Rattle.std.proofs.lemmas.Bool.{or_left}
 use Rattle.evo_base.specs.declared.place.Place.{Place}
 use Rattle.evo_combinators.specs.Rule.{Empty, TokenThen, Then}
 use Rattle.evo_tree.specs.declared.name.Identifier.{Identifier}
@@ -22,7 +23,7 @@ use Rattle.evo_parse_expr.proofs.Tests.{when_some, and_both, number_is, identifi
 use Rattle.evo_round_trip.proofs.Spellings.{sign, named}
 use Rattle.evo_round_trip.proofs.TakenTokens.{taken_mark, taken_name}
 use Rattle.evo_round_trip.proofs.TakenTypes.{taken_if}
-use Rattle.evo_round_trip.proofs.Heads.{is_calm, calm_flush, or_left, apart_free, leads_apart, leads_calm}
+use Rattle.evo_round_trip.proofs.Heads.{is_calm, calm_flush, apart_free, leads_apart, leads_calm}
 use Rattle.evo_round_trip.proofs.Adjacent.{is_snug, is_worded, is_marked, worded_calm, leads_worded, Ends, Keeps, is_head_piece, then_ends, then_keeps, only_keeps, led_ends, name_ends, many_keeps, separated_ends, print_snug}
 use Rattle.evo_round_trip.proofs.PrintedTypes.{SameBy, SameAllBy, print_of, some_separated, separated_prints, type_behind, conforming_prints}
 

@@ -3,6 +3,7 @@ use Rattle.std.proofs.Common.{◌≡◌, ℕ, ◌-◌, ◌^◌, ◌≤◌, List,
 use Rattle.std.specs.List.{flat_map, join_by}
 use Rattle.std.specs.Option.{option_map}
 use Rattle.std.specs.Fmt.{decimal}
+use Rattle.std.proofs.lemmas.List.Concat.{flat_map-append}
 use Rattle.evo_base.specs.declared.place.Place.{Place}
 use Rattle.evo_combinators.specs.Rule.{Empty, TokenThen, One, Then}
 use Rattle.evo_round_trip.proofs.Alike.{AllLike}
@@ -15,10 +16,10 @@ use Rattle.evo_tree.specs.declared.statement.ClauseLabel.{ClauseLabel}
 use Rattle.evo_tree.specs.declared.statement.ClauseLabel.TheVariants as label
 use Rattle.evo_tree.specs.declared.terminal.Terminal.{Terminal}
 use Rattle.evo_tree.specs.declared.terminal.Terminal.TheVariants as t
-use Rattle.evo_tree.specs.Pieces.{mark, identifier, integer, string, negative}
+use Rattle.evo_tree.specs.Pieces.{mark, identifier, integer, string}
 use Rattle.evo_tree.specs.Types.{type_head}
 use Rattle.evo_round_trip.proofs.TakenTypes.{head_word, taken_type_head}
-use Rattle.evo_tree.specs.Statements.{binding, path_of, case_of_type, BindingPattern, PayloadPattern, Subs, PayloadTail, Payload, Path, Magnitude, IsPattern, Patterns, Label}
+use Rattle.evo_tree.specs.Statements.{attached_minus, binding, path_of, case_of_type, BindingPattern, PayloadPattern, Subs, PayloadTail, Payload, Path, Magnitude, IsPattern, Patterns, Label}
 use Rattle.evo_tree.specs.Bare.{origin, bare_identifier, bare_type, bare_binding, bare_pattern, bare_clause_label}
 use Rattle.evo_tree.specs.Canonical.{Text, boolean_text, name_text, type_text, bound_text, binding_text, pattern_text, string_text, optional, listed}
 use Rattle.evo_round_trip.proofs.Written.{Written, is_gap}
@@ -26,7 +27,7 @@ use Rattle.evo_round_trip.proofs.Printed.{any, is_apart, is_free, leads_free}
 use Rattle.evo_round_trip.proofs.Prints.{Prints, Writes, Alone, print_only, print_or, print_led, print_nested, print_then, print_after, print_many, print_behind, print_in, print_firm, print_more, print_onto}
 use Rattle.evo_round_trip.proofs.Spellings.{sign, named, numeral, quoted}
 use Rattle.evo_round_trip.proofs.TokensOfTerminals.{spelling, has_spelling}
-use Rattle.evo_round_trip.proofs.TakenTokens.{taken_mark, taken_name, taken_word, taken_integer, taken_string, taken_negative, SameName}
+use Rattle.evo_round_trip.proofs.TakenTokens.{taken_mark, taken_name, taken_word, taken_integer, taken_string, taken_attached, SameName}
 use Rattle.evo_round_trip.proofs.Tokens.{unknown_is_name}
 use Rattle.evo_round_trip.proofs.Heads.{is_head, is_calm, is_number, head_flush, leads_apart, leads_open, leads_calm, leads_dot, leads_minus}
 use Rattle.evo_round_trip.proofs.ExpressionTrees.{like_map}
@@ -102,8 +103,8 @@ integer_prints : Writes false false is_head pattern_text SamePattern (TokenThen 
 integer_prints = print_led {e' = true} {q = is_free} (taken_integer (2 ^ 63 - 1) [] small refl (λ u n g i. refl)) (λ v ws b. leads_free _ (numeral [] v.1) ws refl b)
     (λ v. print_only (append-nil (decimal v.1)) (λ a near. ap (λ n. pattern.Integer origin n) near.1))
 
-negative_prints : Writes false false is_head pattern_text SamePattern (TokenThen negative Magnitude) (TokenThen negative Magnitude)
-negative_prints = print_led {e' = false} {q = is_number} (taken_negative (λ u g i. refl)) (λ c ws b. leads_minus ws b)
+negative_prints : Writes false false is_head pattern_text SamePattern (TokenThen attached_minus Magnitude) (TokenThen attached_minus Magnitude)
+negative_prints = print_led {e' = false} {q = is_number} (taken_attached (λ u g i. refl)) (λ c ws b. leads_minus ws b)
     (λ c. print_led {e' = true} {q = is_free} (taken_integer (2 ^ 63) [] (omega arith) refl (λ u n g i. refl)) (λ v ws b. leads_free _ (numeral [] v.1) ws refl b)
     (λ v. print_only (ap (λ z. codes "-" ++ z) (append-nil (decimal v.1))) (λ a near. ap (λ n. pattern.Negative origin n) near.1)))
 
@@ -117,10 +118,6 @@ boolean_prints k b has is begun = print_led {e' = true} {q = is_free} (taken_mar
 
 -- ---- a case of a type
 
-flat_append : {X : Type 0} (f : X → Text) (xs ys : List X) → flat_map f (xs ++ ys) ≡ flat_map f xs ++ flat_map f ys
-flat_append f [] ys = refl
-flat_append f (x ∷ xs) ys = ap (λ z. f x ++ z) (flat_append f xs ys) ∙ sym (append_assoc (f x) (flat_map f xs) (flat_map f ys))
-
 abbrev dotted : List ℕ → Text
 dotted m = codes "." ++ m
 
@@ -133,7 +130,7 @@ path_text : (p : Place) (x : List ℕ) (xs : List (List ℕ)) (n : Identifier) (
 path_text p x xs n [] = ap (λ z. (x ++ flat_map dotted xs) ++ (codes "." ++ z)) (sym (append-nil n.text))
 path_text p x xs n (m ∷ ms) =
     path_text p x (xs ++ n.text ∷ []) m ms
-    ∙ ap (λ z. (x ++ z) ++ (codes "." ++ (m.text ++ flat_map (λ k. codes "." ++ name_text k) ms))) (flat_append dotted xs (n.text ∷ []))
+    ∙ ap (λ z. (x ++ z) ++ (codes "." ++ (m.text ++ flat_map (λ k. codes "." ++ name_text k) ms))) (flat_map-append dotted xs (n.text ∷ []))
     ∙ simp (append_assoc, append-nil)
 
 abbrev SamePath : TypeName × Identifier → TypeName × Identifier → Type 0

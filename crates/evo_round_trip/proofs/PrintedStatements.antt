@@ -3,6 +3,7 @@ use Rattle.std.proofs.Common.{◌≡◌, ℕ, zero, suc, List, [], ◌∷◌, �
 use Rattle.std.specs.Prelude.{◌||◌, ◌==◌, not, cond}
 use Rattle.std.specs.List.{flat_map}
 use Rattle.std.specs.Option.{option_map}
+use Rattle.std.proofs.lemmas.Bool.{or_right}
 use Rattle.evo_base.specs.declared.place.Place.{Place}
 use Rattle.evo_base.specs.declared.token.TokenKind.TheVariants as kind
 use Rattle.evo_combinators.specs.Rule.{Empty, Fail, TokenThen, Then}
@@ -37,7 +38,7 @@ use Rattle.evo_round_trip.proofs.Tokens.{spelled_is, spelled_is_token, has_spell
 use Rattle.evo_round_trip.proofs.Spellings.{sign, named}
 use Rattle.evo_round_trip.proofs.TokensOfTerminals.{spelling, kind_for}
 use Rattle.evo_round_trip.proofs.TakenTokens.{like_of, taken_mark, taken_name, SameName}
-use Rattle.evo_round_trip.proofs.Heads.{is_head, is_calm, is_start, head_flush, apart_free, leads_apart, leads_dot, leads_infix, or_right, Begun, any_head}
+use Rattle.evo_round_trip.proofs.Heads.{is_head, is_calm, is_start, head_flush, apart_free, leads_apart, leads_dot, leads_infix, Begun, any_head}
 use Rattle.evo_round_trip.proofs.ExpressionTrees.{SameExpr, like_map, bare_is}
 use Rattle.evo_round_trip.proofs.PrintedExpressions.{Expressed, expressed_behind}
 use Rattle.evo_round_trip.proofs.PrintedOperands.{Arg, SameArguments, expressed, call_prints, nothing_expressed}

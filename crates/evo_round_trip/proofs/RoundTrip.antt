@@ -13,7 +13,7 @@ use Rattle.evo_lex.specs.Identifier.{IsIdentifier}
 use Rattle.evo_lex.proofs.Identifiers.{identifier_lacks}
 use Rattle.evo_lex.proofs.Spots.{bytes}
 use Rattle.evo_tree.specs.declared.name.Identifier.{Identifier}
-use Rattle.evo_tree.specs.declared.declaration.Release.{Release}
+use Rattle.evo_base.specs.declared.place.Release.{Release}
 use Rattle.evo_tree.specs.declared.module.Form.{Form}
 use Rattle.evo_tree.specs.declared.module.Form.TheVariants as form
 use Rattle.evo_tree.specs.declared.module.Item.{Item}

@@ -15,9 +15,9 @@ use Rattle.evo_tree.specs.declared.statement.Clause.{Clause, roll-Clause, fold-r
 use Rattle.evo_tree.specs.declared.statement.Stmt.{Stmt, Stmt-F, out-Stmt, roll-Stmt, map-Stmt, fold_out-Stmt}
 use Rattle.evo_tree.specs.declared.statement.Stmt.TheOpen as f
 use Rattle.evo_tree.specs.declared.statement.Stmt.TheVariants as s
-use Rattle.evo_tree.specs.declared.statement.Stmt.TheVariants.{outs-Local, outs-Discard, outs-Assign, outs-Expr, outs-SelfInit, outs-SuperInit, outs-If, outs-While, outs-Return, outs-Break, outs-Continue, outs-Switch}
+use Rattle.evo_tree.specs.declared.statement.Stmt.TheVariants.{outs-Local, outs-Discard, outs-Assign, outs-Expr, outs-SelfInit, outs-SuperInit, outs-While, outs-Return, outs-Break, outs-Continue, outs-Switch}
 use Rattle.evo_tree.specs.Bare.{origin, bare_identifier, bare_type, bare_expr, bare_argument, bare_clause_label, clear_block, clear_clause, clear_stmt, bare_block, bare_clause, bare_stmt, bare_branch}
-use Rattle.evo_tree.specs.Canonical.{Text, optional, indent, line, name_text, expr_text, typed, introducer_text, assignment_text, call_arguments, clause_text, stmt_words, block_level, clause_level, stmt_level, block_text, stmt_text}
+use Rattle.evo_tree.specs.Canonical.{Text, optional, indent, line, name_text, expr_text, typed, introducer_text, assignment_text, call_arguments, stmt_words, block_level, clause_level, stmt_level, block_text, stmt_text}
 use Rattle.evo_tree.specs.Statements.{block, clause}
 use Rattle.evo_tree.proofs.SameExpressions.{Argument}
 use Rattle.evo_tree.proofs.SameStatements as same
@@ -85,10 +85,6 @@ block_is p ss q d =
     ∙ ap (λ (l : Text). codes "{\n" ++ l ++ indent d ++ codes "}") (flat_map-map (λ (l : Lines). l (d + 1)) stmt_text ss)
 
 -- a clause is the line of its label, and its statements
-pub clause_is : (l : Place × ClauseLabel) (ss : List Stmt) (d : ℕ) → clause_lines (clause l ss) d ≡ line d (clause_text l.1) ++ flat_map (λ x. stmt_text x (d + 1)) ss
-clause_is l ss d =
-    ap (λ (z : Lines). z d) (fold-roll-Clause Lines Lines Lines stmt_level block_level clause_level (record { place = l.0; label = l.1; statements = ss }))
-    ∙ ap (λ (z : Text). line d (clause_text l.1) ++ z) (flat_map-map (λ (z : Lines). z (d + 1)) stmt_text ss)
 
 -- ---- the same but for places
 

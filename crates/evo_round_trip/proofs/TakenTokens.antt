@@ -1,10 +1,10 @@
 -- Pieces that the tests take are written as tokens, and what matches those is taken with a value like it.
 use Rattle.std.proofs.Common.{◌≡◌, ℕ, ◌^◌, ◌≤◌, ◌<◌, lit<, List, [], Bool, true, false, Option, Some, None, refl, sym, ◌∙◌, ap, subst, cond, arith}
-use Rattle.std.specs.Prelude.{◌&&◌, ◌==◌, not, nat_le, codes}
+use Rattle.std.specs.Prelude.{◌&&◌, ◌||◌, ◌==◌, not, nat_le, codes}
 use Rattle.std.specs.Str.{IsUtf8, is_utf8}
 use Rattle.std.proofs.lemmas.Str.{IsUtf8-from_is_utf8}
 use Rattle.std.proofs.lemmas.Slice.Eq.{bytes_eq-Decides}
-use Rattle.std.proofs.lemmas.Bool.{leb-true}
+use Rattle.std.proofs.lemmas.Bool.{leb-true, or_left}
 use Rattle.evo_base.specs.declared.place.Place.{Place}
 use Rattle.evo_base.specs.declared.token.TokenKind.TheVariants as kind
 use Rattle.evo_lex.specs.Front.{when, integer_value}
@@ -22,6 +22,7 @@ use Rattle.evo_tree.specs.declared.expression.PrefixOperator.TheVariants as pref
 use Rattle.evo_tree.specs.Expressions.{infix_by, multiplying, adding, comparing, conjoining, disjoining}
 use Rattle.evo_tree.specs.Pieces as pieces
 use Rattle.evo_tree.specs.Pieces.{Piece, placed, sign_of, is_terminal, is_identifier, has_role, role_number, mark, identifier, word, is_word, integer, string, negative, call}
+use Rattle.evo_tree.specs.Statements.{attached_minus}
 use Rattle.evo_tree.specs.Bare.{origin, bare_identifier}
 use Rattle.evo_tree.specs.Canonical.{prefix_text, infix_text}
 use Rattle.evo_round_trip.proofs.Written.{Written, is_gap, IsToken}
@@ -165,6 +166,20 @@ takes_negative firm g Near p begun u c gen passes takes =
           let like = like_of firm m (minus []) f in
           let sign : is_terminal t.Minus m ≡ true = number_is t.Minus m (ap number_of (like.terminal ∙ spelled_is t.Minus refl)) in
           (m.place, ap (λ b. when b m.place) (both_and (is_terminal t.Minus m) (has_role role.Negative m) sign (ap (λ r. role_number r == 2) like.role)), tt),
+    )
+
+takes_attached : {A : Type 0} (firm : Bool) (g : Piece → Bool) (Near : A → Type 0) (p : Written → Bool) → ((u : Piece) → g u ≡ true → u.terminal ≡ t.Minus → p (minus []) ≡ true) →
+    Takes firm g p (λ (c : Place). minus []) Near Anyhow attached_minus (λ a. attached_minus)
+unfolding attached_minus
+takes_attached firm g Near p begun u c gen passes takes =
+    let is = and_both (is_terminal t.Minus u) _ (when_some (is_terminal t.Minus u && (has_role role.Negative u || has_role role.Prefix u)) u.place c takes).0 in (
+      spelled_is_token t.Minus refl [] refl role.Negative,
+      begun u passes (is_same t.Minus u is.0),
+      λ a near m f.
+          let like = like_of firm m (minus []) f in
+          let sign : is_terminal t.Minus m ≡ true = number_is t.Minus m (ap number_of (like.terminal ∙ spelled_is t.Minus refl)) in
+          let attached : (has_role role.Negative m || has_role role.Prefix m) ≡ true = or_left _ _ (ap (λ r. role_number r == 2) like.role) in
+          (m.place, ap (λ b. when b m.place) (both_and (is_terminal t.Minus m) _ sign attached), tt),
     )
 
 -- an operator before its operand
@@ -342,6 +357,9 @@ module _ {A : Type 0} {firm : Bool} {g : Piece → Bool} {p : Written → Bool} 
 
   pub taken_negative : ((u : Piece) → g u ≡ true → u.terminal ≡ t.Minus → p (minus []) ≡ true) → Taken firm g p (λ (c : Place). minus []) Near Anyhow negative (λ a. negative)
   taken_negative begun = record { holds = takes_negative firm g Near p begun }
+
+  pub taken_attached : ((u : Piece) → g u ≡ true → u.terminal ≡ t.Minus → p (minus []) ≡ true) → Taken firm g p (λ (c : Place). minus []) Near Anyhow attached_minus (λ a. attached_minus)
+  taken_attached begun = record { holds = takes_attached firm g Near p begun }
 
   pub taken_sign : ((u : Piece) (o : PrefixOperator) → g u ≡ true → u.terminal ≡ sign_terminal o → p (prefixed o) ≡ true) → Taken firm g p (λ (c : Place × PrefixOperator). prefixed c.1) Near SameSign pieces.sign (λ a. pieces.sign)
   taken_sign begun = record { holds = takes_sign firm g Near p begun }

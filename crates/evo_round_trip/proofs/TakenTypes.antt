@@ -2,6 +2,7 @@
 use Rattle.std.proofs.Common.{◌≡◌, ℕ, List, Bool, true, false, codes, Option, refl, sym, ◌∙◌, ap, subst, inl, inr}
 use Rattle.std.specs.Prelude.{◌&&◌, ◌||◌, ◌==◌}
 use Rattle.std.specs.Str.{chars, is_utf8}
+use Rattle.std.proofs.lemmas.Bool.{or_left, or_right}
 use Rattle.evo_base.specs.declared.place.Place.{Place}
 use Rattle.evo_base.specs.declared.token.TokenKind.{TokenKind}
 use Rattle.evo_base.specs.declared.token.TokenKind.TheVariants as kind
@@ -22,7 +23,6 @@ use Rattle.evo_round_trip.proofs.Tokens.{has_spelling, spelled, spelled_is, spel
 use Rattle.evo_round_trip.proofs.TokensOfWords.{name_is_token}
 use Rattle.evo_round_trip.proofs.Spellings.{named}
 use Rattle.evo_round_trip.proofs.TakenTokens.{Anyhow, SameString, like_of}
-use Rattle.evo_round_trip.proofs.Heads.{or_left, or_right}
 
 -- a name or `Self`
 abbrev pub head_word : List ℕ → List ℕ → Written

@@ -7,6 +7,7 @@ use Rattle.std.specs.Str.{IsUtf8, chars, encode_utf8_all, all_scalars}
 use Rattle.std.proofs.lemmas.Bool.{cases_lt, ltb-true, and_parts, and_from, and_left, not-true, cond_both, agree_below_at}
 use Rattle.std.proofs.lemmas.List.{append-nil, length-append}
 use Rattle.std.proofs.lemmas.Str.{encode_ascii, encodes-append, encodes-IsAscii, encodes-chars, scalars-chars, chars-encodes}
+use Rattle.std.proofs.lemmas.List.Concat.{flat_map-append}
 use lib.Utf8.{scalar}
 use Rattle.unicode_ident.proofs.IdentLemmas.{is_xid_start-ascii}
 use Rattle.evo_base.specs.declared.token.TokenKind.TheVariants as kind
@@ -89,10 +90,6 @@ high_same (b ∷ bs) all = ap (λ (l : List ℕ). l ++ flat_map escape bs) (high
 low_escape : (c : ℕ) → c < 128 → is_low (escape c) ≡ true
 low_escape c low = agree_below_at (λ (x : ℕ). is_low (escape x)) (λ (x : ℕ). true) 128 c refl low
 
-flat_both : (xs ys : List ℕ) → flat_map escape (xs ++ ys) ≡ flat_map escape xs ++ flat_map escape ys
-flat_both [] ys = refl
-flat_both (x ∷ xs) ys = ap (λ (l : List ℕ). escape x ++ l) (flat_both xs ys) ∙ sym (append_assoc (escape x) (flat_map escape xs) (flat_map escape ys))
-
 -- what is written for the bytes of a character is what is written for the character
 escape_bytes : (c : ℕ) → flat_map escape (encode_utf8 c) ≡ encode_utf8_all (escape c)
 escape_bytes c = elim (cases_lt c 128) [
@@ -103,7 +100,7 @@ escape_bytes c = elim (cases_lt c 128) [
 all_bytes : (ds : List ℕ) → flat_map escape (encode_utf8_all ds) ≡ encode_utf8_all (flat_map escape ds)
 all_bytes [] = refl
 all_bytes (d ∷ ds) =
-    flat_both (encode_utf8 d) (encode_utf8_all ds)
+    flat_map-append escape (encode_utf8 d) (encode_utf8_all ds)
     ∙ ap (λ (l : List ℕ). l ++ flat_map escape (encode_utf8_all ds)) (escape_bytes d)
     ∙ ap (λ (l : List ℕ). encode_utf8_all (escape d) ++ l) (all_bytes ds)
     ∙ sym (encodes-append (escape d) (flat_map escape ds))

@@ -25,7 +25,7 @@ use Rattle.evo_tree.specs.declared.statement.Block.{Block, Block-F, fold-Block}
 use Rattle.evo_tree.specs.declared.statement.Clause.{Clause-F}
 use Rattle.evo_tree.specs.declared.statement.Stmt.{Stmt, Stmt-F, fold-Stmt}
 use Rattle.evo_tree.specs.declared.statement.Stmt.TheOpen as st
-use Rattle.evo_tree.specs.declared.declaration.Release.{Release}
+use Rattle.evo_base.specs.declared.place.Release.{Release}
 use Rattle.evo_tree.specs.declared.declaration.Availability.{Availability}
 use Rattle.evo_tree.specs.declared.declaration.Availability.TheVariants as availability
 use Rattle.evo_tree.specs.declared.declaration.AttrKind.{AttrKind}

@@ -1,33 +1,39 @@
 -- The grammar of declarations.
 --
---   decl       = { attr } { modifier } kind
---   attr       = "@" ("frozen" | "inlinable" | "usableFromInline") | "@" "available" "(" avail ")"
---   avail      = "*" "," ("deprecated" | "unavailable") | "macOS" int ["." int] "," "*"
---   modifier   = "open" | "public" | "internal" | "private" | "final" | "static" | "mutating" | "override"
---   kind       = "func" name sig ["->" result] [reqs] [block]
---              | "init" sig [reqs] [block]
---              | ("var" | "let") name ":" type [accessors]
---              | "typealias" name "=" type
---              | "associatedtype" name [":" protos] ["=" type]
---              | "case" casedecl { "," casedecl }
---              | ("struct"|"enum"|"class"|"protocol") name [inherit] members
---              | "extension" type [inherit] members
---   sig        = ["<" gparam { "," gparam } ">"] "(" [param { "," param }] ")"
---   gparam     = name [":" protos]
---   protos     = type { "&" type }
---   reqs       = "where" req { "," req }
---   req        = type ":" protos | type "==" type
---   param      = [name | "_"] name ":" type
---   result     = type | "Void" | "(" ")"
---   accessors  = "{" "get" ["set"] "}" | "{" "get" block ["set" block] "}" | block
---   casedecl   = name ["(" payload { "," payload } ")"]
---   payload    = [name ":"] type
---   inherit    = ":" type { "," type }
---   members    = "{" { decl } "}"
+--   decl      = { attribute } { modifier } kind
+--   attribute = "@" ( "frozen" | "inlinable" | "usableFromInline" )
+--             | "@" "available" "(" availability ")"
+--   availability = "*" "," ( "deprecated" | "unavailable" )
+--             | "macOS" INT [ "." INT ] "," "*"
+--   modifier  = "open" | "public" | "internal" | "private" | "final"
+--             | "static" | "mutating" | "override"
+--   kind      = "func" NAME header [ block ]
+--             | "init" header [ block ]
+--             | "var" NAME ":" type [ accessors ]
+--             | "let" NAME ":" type
+--             | "typealias" NAME "=" type
+--             | "associatedtype" NAME [ ":" protocols ] [ "=" type ]
+--             | "case" element { "," element }
+--             | ( "struct" | "enum" | "class" | "protocol" ) NAME [ inherited ] members
+--             | "extension" type [ inherited ] members
+--   header    = [ "<" generic { "," generic } ">" ] parameters
+--               [ "->" result ] [ "where" requirement { "," requirement } ]
+--   generic   = NAME [ ":" protocols ]
+--   protocols = type { "&" type }
+--   requirement = type ":" protocols | type "==" type
+--   parameters = "(" [ parameter { "," parameter } ] ")"
+--   parameter = [ NAME | "_" ] NAME ":" type
+--   result    = type | "(" ")"
+--   accessors = "{" "get" [ "set" ] "}"
+--             | "{" "get" block [ "set" block ] "}" | block
+--   element   = NAME [ "(" element_payload { "," element_payload } ")" ]
+--   element_payload = [ NAME ":" ] type
+--   inherited = ":" type { "," type }
+--   members   = "{" [ decl { separator decl } ] "}"
 --
--- A parameter says whether the text is an interface, and another one what the declaration stands in.
--- Each modifier, and each attribute but `@available`, stands at most once. The numbers in `avail` are below 2^32. `<`, `>`, `=`, `->` and `&` stand with any white space, and `==` is infix.
--- A declaration behind another one stands behind a `;` or on a later line. A "(" and a "{" nest what follows.
+-- A parameter of the rules says whether the text is an interface, and another one what the declaration stands in (Scope).
+-- Each modifier, and each attribute but `@available`, stands at most once. The numbers of a release are below 2^32. `->`, `<`, `>`, `=` and `&` stand with any white space, and `==` is infix.
+-- The header of an initialiser has no `->`. The type `Void` alone is no result. A separator is a `;`, or nothing where the next declaration begins on a later line. A `(` and a `{` nest what follows.
 -- A block that begins with `get` and then `{`, `set`, `;` or `}` is a list of accessors.
 use Rattle.std.specs.Prelude.{◌≡◌, ℕ, zero, suc, ◌+◌, ◌-◌, ◌^◌, ◌==◌, List, [], ◌∷◌, ◌++◌, map, filter, flat_map, Option, Some, None, Bool, true, false, not, ◌&&◌, ◌||◌, codes, if◌then◌else◌}
 use Rattle.std.specs.List.{list_any}
@@ -40,7 +46,6 @@ use Rattle.evo_tree.specs.declared.name.Identifier.{Identifier}
 use Rattle.evo_tree.specs.declared.name.TypeName.{TypeName}
 use Rattle.evo_tree.specs.declared.statement.Block.{Block}
 use Rattle.evo_tree.specs.declared.statement.Introducer.TheVariants as introducer
-use Rattle.evo_tree.specs.declared.declaration.Release.{Release}
 use Rattle.evo_tree.specs.declared.declaration.Availability.{Availability}
 use Rattle.evo_tree.specs.declared.declaration.Availability.TheVariants as availability
 use Rattle.evo_tree.specs.declared.declaration.AttrKind.{AttrKind}
@@ -72,7 +77,7 @@ use Rattle.evo_tree.specs.declared.terminal.Terminal.TheVariants as t
 use Rattle.evo_tree.specs.declared.terminal.Role.TheVariants as role
 use Rattle.evo_tree.specs.Pieces.{Piece, is_terminal, mark, identifier, word, integer, has_role}
 use Rattle.evo_tree.specs.Expressions.{Rule, Nested}
-use Rattle.evo_tree.specs.Types.{IsType, type_name, plain_name}
+use Rattle.evo_tree.specs.Types.{IsType, type_name}
 
 -- ---- rules of any form
 
@@ -86,7 +91,7 @@ abbrev pub Within : {A : Type 0} → (ℕ → Rule A) → ℕ → Rule A
 Within S zero = Fail
 Within S (suc d) = S d
 
--- one, and more behind a mark
+-- S { mark S }
 abbrev pub Separated : {A : Type 0} → Terminal → Rule A → Rule (List A)
 Separated k S = Then S (λ x. Then (Many (mark k) (λ _. S)) (λ xs. Empty (x ∷ xs)))
 
@@ -102,7 +107,7 @@ Unless c S us a = (c us ≡ false) × S us a
 abbrev pub Next : {A : Type 0} → Rule A → Rule A
 Next S = Or (TokenThen (mark t.Semicolon) (λ _. S)) (Or (Below S) Fail)
 
--- any number, with separators between them
+-- [ S { separator S } ]
 abbrev pub Lines : {A : Type 0} → Rule A → Rule (List A)
 Lines S = Or (Then S (λ x. Then (Run (λ _. Next S) (λ first _. first) true) (λ xs. Empty (x ∷ xs)))) (Empty [])
 
@@ -152,27 +157,28 @@ standing p = if is_terminal t.Identifier p && bytes_eq p.text (codes "deprecated
 abbrev pub introduced : ℕ → ℕ → Availability
 introduced major minor = availability.Introduced (record { major = major; minor = minor })
 
--- int
+-- INT
 abbrev pub Number : Rule ℕ
 Number = TokenThen (integer (2 ^ 32 - 1)) (λ v. Empty v.1)
 
--- [ "." int ]
+-- [ "." INT ]
 abbrev pub Minor : Rule ℕ
 Minor = Or (TokenThen (mark t.Dot) (λ _. Number)) (Empty 0)
 
+-- availability
 abbrev pub IsAvailability : Rule Availability
 IsAvailability = Or (TokenThen (mark t.Star) (λ _. TokenThen (mark t.Comma) (λ _. One standing)))
     (TokenThen (word (codes "macOS")) (λ _. Then Number (λ n. Then Minor (λ m. TokenThen (mark t.Comma) (λ _. TokenThen (mark t.Star) (λ _. Empty (introduced n m)))))))
 
--- "(" avail ")"
+-- "(" availability ")"
 abbrev pub AvailableTail : ℕ → Place → Rule Attr
 AvailableTail d p = Or (Nested d (mark t.OpenParenthesis) (λ _. Then IsAvailability (λ a. TokenThen (mark t.CloseParenthesis) (λ _. Empty (attribute p (attr.Available a)))))) Fail
 
--- attr, behind these
+-- attribute, behind these
 abbrev pub Attribute : ℕ → List Attr → Rule Attr
 Attribute d attrs = TokenThen (mark t.At) (λ p. Or (TokenThen (attribute_word attrs) (λ kind. Empty (attribute p kind))) (TokenThen (word (codes "available")) (λ _. AvailableTail d p)))
 
--- { attr }
+-- { attribute }
 abbrev pub Attributes : ℕ → Rule (List Attr)
 Attributes d = Run (Attribute d) (λ attrs a. attrs ++ a ∷ []) []
 
@@ -283,22 +289,22 @@ declaration s attrs modifiers p kind = roll-Decl (record {
 
 -- ---- types in headers
 
--- protos
+-- protocols
 abbrev pub Protocols : Rule (List TypeName)
 Protocols = Separated t.And IsType
 
--- inherit
+-- [ inherited ]
 abbrev pub Inherited : Rule (List TypeName)
 Inherited = Or (TokenThen (mark t.Colon) (λ _. Separated t.Comma IsType)) (Empty [])
 
--- [ ":" protos ]
+-- [ ":" protocols ]
 abbrev pub Conforming : Rule (List TypeName)
 Conforming = Or (TokenThen (mark t.Colon) (λ _. Protocols)) (Empty [])
 
 abbrev pub generic_parameter : Identifier → List TypeName → GenericParameter
 generic_parameter n protocols = record { name = n; protocols = protocols }
 
--- gparam
+-- generic
 abbrev pub Generic : Rule GenericParameter
 Generic = TokenThen identifier (λ n. Then Conforming (λ protocols. Empty (generic_parameter n protocols)))
 
@@ -306,7 +312,7 @@ Generic = TokenThen identifier (λ n. Then Conforming (λ protocols. Empty (gene
 unfoldable pub infix_mark : Terminal → Piece → Option Place
 infix_mark k p = when (is_terminal k p && has_role role.Infix p) p.place
 
--- req
+-- requirement
 abbrev pub IsRequirement : Rule Requirement
 IsRequirement = Then IsType (λ a. Or (TokenThen (mark t.Colon) (λ _. Then Protocols (λ protocols. Empty (requirement.Conforms a protocols))))
     (TokenThen (infix_mark t.EqualEqual) (λ p. Then IsType (λ b. Empty (requirement.Same a p b)))))
@@ -318,16 +324,16 @@ parameter p l n type = record { place = p; label = l; name = n; type_name = type
 abbrev pub ParameterTail : Place → ParameterLabel → Identifier → Rule Parameter
 ParameterTail p l n = TokenThen (mark t.Colon) (λ _. Then IsType (λ type. Empty (parameter p l n type)))
 
--- param
+-- parameter
 abbrev pub IsParameter : Rule Parameter
 IsParameter = Or (TokenThen (mark t.Underscore) (λ p. TokenThen identifier (λ n. ParameterTail p label.Blank n)))
     (TokenThen identifier (λ m. Or (TokenThen identifier (λ n. ParameterTail m.place (label.Written m) n)) (ParameterTail m.place label.Same m)))
 
--- param { "," param } ")"
+-- parameter { "," parameter } ")"
 abbrev pub ListedParameters : Rule (List Parameter)
 ListedParameters = Then (Separated t.Comma IsParameter) (λ ps. TokenThen (mark t.CloseParenthesis) (λ _. Empty ps))
 
--- "(" [ param { "," param } ] ")"
+-- parameters
 abbrev pub Parameters : ℕ → Rule (List Parameter)
 Parameters d = Or (Nested d (mark t.OpenParenthesis) (λ _. Or (TokenThen (mark t.CloseParenthesis) (λ _. Empty [])) ListedParameters)) Fail
 
@@ -347,18 +353,15 @@ Result d = Or (Nested d (mark t.OpenParenthesis) (λ _. TokenThen (mark t.CloseP
 abbrev pub payload : Option Identifier → TypeName → Payload
 payload l type = record { label = l; type_name = type }
 
--- { "." name }, behind the first name of a type
-abbrev pub TypeTail : Identifier → Rule TypeName
-TypeTail n = Then (Many (mark t.Dot) (λ _. One plain_name)) (λ names. Empty (type_name (n.place, n.text) names))
-
--- payload
+-- element_payload
 abbrev pub IsPayload : Rule Payload
 IsPayload = Or (TokenThen identifier (λ n. TokenThen (mark t.Colon) (λ _. Then IsType (λ type. Empty (payload (Some n) type))))) (Then IsType (λ type. Empty (payload None type)))
 
--- casedecl
+-- element_payload { "," element_payload } ")"
 abbrev pub PayloadsTail : Rule (List Payload)
 PayloadsTail = Then (Separated t.Comma IsPayload) (λ ps. TokenThen (mark t.CloseParenthesis) (λ _. Empty ps))
 
+-- element
 abbrev pub IsCase : ℕ → Rule DeclKind
 IsCase d = TokenThen identifier (λ n. Then (Or (Nested d (mark t.OpenParenthesis) (λ _. PayloadsTail)) (Empty [])) (λ ps. Empty (k.Case n ps)))
 
@@ -407,7 +410,7 @@ module _ (interface : Bool) (s : Scope) where
   abbrev pub may_be_stored : List Attr → Bool
   may_be_stored attrs = if interface then is_frozen s && not (has_attribute attr.Inlinable attrs) else has_storage s
 
--- [ "<" gparam { "," gparam } ">" ]
+-- [ "<" generic { "," generic } ">" ]
 abbrev pub Generics : Scope → Rule (List GenericParameter)
 Generics s = Or (TokenThen (only_if (not (is_protocol s)) (mark t.Less)) (λ _. Then (Separated t.Comma Generic) (λ gs. TokenThen (mark t.Greater) (λ _. Empty gs)))) (Empty [])
 
@@ -415,19 +418,19 @@ Generics s = Or (TokenThen (only_if (not (is_protocol s)) (mark t.Less)) (λ _. 
 abbrev pub Returns : ℕ → Bool → Rule (Option TypeName)
 Returns d may = Or (TokenThen (only_if may (mark t.Arrow)) (λ _. Result d)) (Empty None)
 
--- [ reqs ]
+-- [ "where" requirement { "," requirement } ]
 abbrev pub Requirements : Scope → Rule (List Requirement)
 Requirements s = Or (TokenThen (only_if (not (is_protocol s)) (mark t.Where)) (λ _. Separated t.Comma IsRequirement)) (Empty [])
 
--- sig [ "->" result ] [ reqs ], where the flag says whether there may be a result
+-- header, where the flag says whether there may be a result
 abbrev pub IsHeader : Scope → ℕ → Bool → Rule Header
 IsHeader s d may = Then (Generics s) (λ gs. Then (Parameters d) (λ ps. Then (Returns d may) (λ type. Then (Requirements s) (λ rs. Empty (header gs ps type rs)))))
 
--- name ":" type
+-- NAME ":" type
 abbrev pub LetTail : Place → Rule (Place × List DeclKind)
 LetTail p = TokenThen identifier (λ n. TokenThen (mark t.Colon) (λ _. Then IsType (λ type. Empty (one_kind p (k.Property introducer.Let n type accessors.Stored)))))
 
--- name "=" type
+-- NAME "=" type
 abbrev pub AliasTail : Place → Rule (Place × List DeclKind)
 AliasTail p = TokenThen identifier (λ n. TokenThen (mark t.Equal) (λ _. Then IsType (λ type. Empty (one_kind p (k.TypeAlias n type)))))
 
@@ -435,11 +438,11 @@ AliasTail p = TokenThen identifier (λ n. TokenThen (mark t.Equal) (λ _. Then I
 abbrev pub Default : Rule (Option TypeName)
 Default = Or (TokenThen (mark t.Equal) (λ _. Then IsType (λ type. Empty (Some type)))) (Empty None)
 
--- name [ ":" protos ] [ "=" type ]
+-- NAME [ ":" protocols ] [ "=" type ]
 abbrev pub AssociatedTail : Place → Rule (Place × List DeclKind)
 AssociatedTail p = TokenThen identifier (λ n. Then Conforming (λ protocols. Then Default (λ type. Empty (one_kind p (k.AssociatedType n protocols type)))))
 
--- casedecl { "," casedecl }
+-- element { "," element }
 abbrev pub CasesTail : ℕ → Place → Rule (Place × List DeclKind)
 CasesTail d p = Then (Separated t.Comma (IsCase d)) (λ cases. Empty (p, cases))
 
@@ -485,15 +488,15 @@ module _ (B : ℕ → Bool → Rule Block) where
 
   -- the text is an interface or not, and the declaration stands in this scope
   module _ (interface : Bool) (s : Scope) where
-    -- name sig [ "->" result ] [ reqs ] [ block ]
+    -- NAME header [ block ]
     abbrev pub FunctionTail : ℕ → List Attr → Place → Rule (Place × List DeclKind)
     FunctionTail d attrs p = TokenThen identifier (λ n. Then (IsHeader s d true) (λ h. Then (Body d false (has_body interface s attrs)) (λ b. Empty (one_kind p (k.Function n h b)))))
 
-    -- sig [ reqs ] [ block ]
+    -- header [ block ]
     abbrev pub InitialiserTail : ℕ → List Attr → Place → Rule (Place × List DeclKind)
     InitialiserTail d attrs p = Then (IsHeader s d false) (λ h. Then (Body d true (has_body interface s attrs)) (λ b. Empty (one_kind p (k.Initialiser h b))))
 
-    -- name ":" type [ accessors ]
+    -- NAME ":" type [ accessors ]
     abbrev pub VarTail : ℕ → List Attr → Place → Rule (Place × List DeclKind)
     VarTail d attrs p = TokenThen identifier (λ n. TokenThen (mark t.Colon) (λ _. Then IsType (λ type. Then (IsAccessors d (has_body interface s attrs) (may_be_stored interface s attrs)) (λ a. Empty (one_kind p (k.Property introducer.Var n type a))))))
 
@@ -507,7 +510,7 @@ module _ (B : ℕ → Bool → Rule Block) where
         (Or (TokenThen (only_if (is_protocol s) (mark t.Associatedtype)) AssociatedTail)
         (Or (TokenThen (only_if (is_enum s) (mark t.Case)) (CasesTail d)) Fail))))))
 
-    -- { decl }
+    -- [ decl { separator decl } ]
     abbrev pub AreMembers : ℕ → Rule (List Decl)
     AreMembers d = Then (Lines (DeclarationOf s d (MemberKind d))) (λ ds. Empty (flat_map (λ d. d) ds))
 
@@ -516,11 +519,11 @@ module _ (B : ℕ → Bool → Rule Block) where
     abbrev pub Members : ℕ → Scope → Rule (List Decl)
     Members d s = Or (Nested d (mark t.OpenBrace) (λ _. Then (Within (AreMembers interface s) d) (λ ms. TokenThen (mark t.CloseBrace) (λ _. Empty ms)))) Fail
 
-    -- name [ inherit ] members
+    -- NAME [ inherited ] members
     abbrev pub NominalTail : ℕ → List Attr → Place × NominalKind → Rule (Place × List DeclKind)
     NominalTail d attrs w = TokenThen identifier (λ n. Then Inherited (λ is. Then (Members d (scope_of w.1 attrs)) (λ ms. Empty (one_kind w.0 (k.Nominal w.1 n is ms)))))
 
-    -- type [ inherit ] members
+    -- type [ inherited ] members
     abbrev pub ExtensionTail : ℕ → Place → Rule (Place × List DeclKind)
     ExtensionTail d p = Then IsType (λ type. Then Inherited (λ is. Then (Members d scope.Extension) (λ ms. Empty (one_kind p (k.Extension type is ms)))))
 

@@ -1,18 +1,22 @@
 -- The grammar of expressions: which tokens spell which expression.
 --
---   expr    = and { "||" and }        and = cmp { "&&" cmp }
---   cmp     = add [("=="|"!="|"<"|"<="|">"|">="|"==="|"!==") add]
---   add     = mul { ("+" | "-" | "&+" | "&-") mul }
---   mul     = unary { ("*" | "/" | "%" | "&*") unary }
---   unary   = ("-" | "!") unary | post
---   post    = primary { "." name [args] }
---   primary = name [args] | int | string | "self" | "Self" | "super" "." name args
---           | "true" | "false" | "-" int | "(" expr ")" | "." name [args]
---   args    = "(" [arg { "," arg }] ")"     arg = [name ":"] expr
+--   expr      = and { "||" and }
+--   and       = cmp { "&&" cmp }
+--   cmp       = add [ ( "==" | "!=" | "<" | "<=" | ">" | ">=" | "===" | "!==" ) add ]
+--   add       = mul { ( "+" | "-" | "&+" | "&-" ) mul }
+--   mul       = unary { ( "*" | "/" | "%" | "&*" ) unary }
+--   unary     = ( "-" | "!" ) unary | post
+--   post      = primary { "." NAME [ arguments ] }
+--   primary   = NAME [ arguments ] | INT | STRING | "self" | "Self"
+--             | "super" "." NAME arguments | "true" | "false" | "-" INT
+--             | "(" expr ")" | "." NAME [ arguments ]
+--   arguments = "(" [ argument { "," argument } ] ")"
+--   argument  = [ NAME ":" ] expr
 --
--- A "-" directly before an integer is part of it, and only then may the integer be 2^63. The "(" of a call stands on the line of the token before it.
--- A "(" and an operator before its operand nest what follows. `self.init` and `super.init` are statements (Statements).
-use Rattle.std.specs.Prelude.{ℕ, zero, suc, ◌-◌, ◌^◌, List, [], ◌∷◌, Bool, true, false, Option, Some, None, if◌then◌else◌}
+-- Operators between operands are infix, those before an operand prefix, by the white space beside them. A `-` directly before an integer is
+-- part of it, and only then may the integer be 2^63. The `(` of a call stands on the line of the token before it. A `(` and an operator
+-- before its operand nest what follows. `self.init` and `super.init` are statements (Statements).
+use Rattle.std.specs.Prelude.{ℕ, zero, suc, ◌-◌, ◌^◌, List, [], ◌∷◌, true, false, Option, Some, None, if◌then◌else◌}
 use Rattle.evo_base.specs.declared.place.Place.{Place}
 use Rattle.evo_combinators.specs.Rule.{Empty, Fail, TokenThen, Or, Then, Many}
 use Rattle.evo_tree.specs.declared.name.Identifier.{Identifier}
@@ -102,27 +106,27 @@ Levels S = Chain (infix_by disjoining) (Chain (infix_by conjoining) (Pair (infix
 
 -- Inner is an expression in parentheses, Operand what follows a sign, and d how much nesting may open
 module _ (d : ℕ) (Inner Operand : Rule Expr) where
-  -- [ name ":" ] expr
+  -- argument
   abbrev pub Argument : Rule (Option Identifier × Expr)
   Argument = Or (TokenThen identifier (λ n. TokenThen (mark t.Colon) (λ _. Then Inner (λ x. Empty (Some n, x))))) (Then Inner (λ x. Empty (None, x)))
 
-  -- arg { "," arg }
+  -- argument { "," argument }
   abbrev pub ListedArguments : Rule (List (Option Identifier × Expr))
   ListedArguments = Then Argument (λ a. Then (Many (mark t.Comma) (λ _. Argument)) (λ as'. Empty (a ∷ as')))
 
-  -- [ arg { "," arg } ] ")"
+  -- [ argument { "," argument } ] ")"
   abbrev pub ArgumentsTail : Rule (List (Option Identifier × Expr))
   ArgumentsTail = Or (TokenThen (mark t.CloseParenthesis) (λ _. Empty [])) (Then ListedArguments (λ as'. TokenThen (mark t.CloseParenthesis) (λ _. Empty as')))
 
-  -- [ args ]
+  -- [ arguments ]
   abbrev pub Arguments : Rule (Option (List (Option Identifier × Expr)))
   Arguments = Or (Nested d call (λ _. Then ArgumentsTail (λ as'. Empty (Some as')))) (Empty None)
 
-  -- args
+  -- arguments
   abbrev pub Call : Rule (List (Option Identifier × Expr))
   Call = Or (Nested d call (λ _. ArgumentsTail)) Fail
 
-  -- name [ args ]
+  -- NAME [ arguments ]
   abbrev pub Member : Rule (Identifier × Option (List (Option Identifier × Expr)))
   Member = TokenThen identifier (λ n. Then Arguments (λ as'. Empty (n, as')))
 
@@ -130,7 +134,7 @@ module _ (d : ℕ) (Inner Operand : Rule Expr) where
   abbrev pub GroupTail : Place → Rule Expr
   GroupTail p = Then Inner (λ x. TokenThen (mark t.CloseParenthesis) (λ _. Empty (e.Parenthesised p x)))
 
-  -- "." name args, behind `super`
+  -- "." NAME arguments, behind `super`
   abbrev pub SuperTail : Place → Rule Expr
   SuperTail p = TokenThen (mark t.Dot) (λ _. TokenThen identifier (λ n. Then Call (λ as'. Empty (e.Super p n as'))))
 
@@ -138,6 +142,7 @@ module _ (d : ℕ) (Inner Operand : Rule Expr) where
   abbrev pub Magnitude : Place → Rule Expr
   Magnitude p = TokenThen (integer (2 ^ 63)) (λ v. Empty (e.Negative p v.1))
 
+  -- primary
   abbrev pub Primary : Rule Expr
   Primary = Or (TokenThen identifier (λ n. Then Arguments (λ as'. Empty (e.Name n as'))))
       (Or (TokenThen (integer (2 ^ 63 - 1)) (λ v. Empty (e.Integer v.0 v.1)))
@@ -151,15 +156,15 @@ module _ (d : ℕ) (Inner Operand : Rule Expr) where
       (Or (Nested d (mark t.OpenParenthesis) GroupTail)
       (Or (TokenThen (mark t.Dot) (λ p. Then Member (λ m. Empty (e.ImplicitMember p m.0 m.1)))) Fail))))))))))
 
-  -- { "." name [ args ] }
+  -- { "." NAME [ arguments ] }
   abbrev pub Links : Expr → Rule Expr
   Links x = Then (Many (mark t.Dot) (λ _. Member)) (λ ms. Empty (members x ms))
 
-  -- primary { "." name [ args ] }
+  -- post
   abbrev pub Postfix : Rule Expr
   Postfix = Then Primary Links
 
-  -- sign unary | post
+  -- unary
   abbrev pub UnaryOf : Rule Expr
   UnaryOf = Or (Nested d sign (λ s. Then Operand (λ x. Empty (e.Prefix s.0 s.1 x)))) Postfix
 

@@ -3,7 +3,6 @@ pub mod Pieces
 pub mod Expressions
 pub mod Types
 pub mod Bare
-pub mod Nodes
 pub mod Canonical
 pub mod Statements
 pub mod Declarations

@@ -1,12 +1,12 @@
 -- The grammar of modules, and which text spells which module.
 --
---   library    = { import } { decl }
---   client     = { import } { decl | stmt }
---   interface  = import { decl }
---   import     = "import" name
+--   library   = [ part { separator part } ]     part = import | decl
+--   client    = [ part { separator part } ]     part = import | decl | statement
+--   interface = import { separator decl }
+--   import    = "import" NAME
 --
--- Imports, declarations and statements behind another one stand behind a `;` or on a later line.
--- An interface begins with two exact lines, which are comments to the grammar. They say its name and its release.
+-- Imports stand before all else. A separator is a `;`, or nothing where the next part begins on a later line.
+-- An interface begins with two exact lines, which are comments to the tokens. They say its name and its release.
 use Rattle.std.specs.Prelude.{◌≡◌, ◌⊎◌, ℕ, ◌^◌, ◌<◌, List, [], ◌∷◌, ◌++◌, map, Option, Some, None, Bool, true, false, codes}
 use Rattle.std.specs.Fmt.{decimal}
 use Rattle.std.specs.Str.{IsUtf8}
@@ -14,11 +14,11 @@ use Rattle.evo_base.specs.declared.token.Token.{Token}
 use Rattle.evo_combinators.specs.Rule.{Empty, TokenThen, Or, Then}
 use Rattle.evo_combinators.specs.Guard.{Run}
 use Rattle.evo_lex.specs.Tokenization.{Tokenization}
-use Rattle.evo_words.specs.Module.{IsModule}
+use Rattle.evo_lex.specs.ModuleName.{IsModule}
 use Rattle.evo_tree.specs.declared.name.Identifier.{Identifier}
 use Rattle.evo_tree.specs.declared.statement.Block.{Block}
 use Rattle.evo_tree.specs.declared.statement.Stmt.{Stmt}
-use Rattle.evo_tree.specs.declared.declaration.Release.{Release}
+use Rattle.evo_base.specs.declared.place.Release.{Release}
 use Rattle.evo_tree.specs.declared.module.Form.{Form}
 use Rattle.evo_tree.specs.declared.module.Form.TheVariants as form
 use Rattle.evo_tree.specs.declared.module.Item.{Item}
@@ -60,7 +60,7 @@ module _ (B : ℕ → Bool → Rule Block) (S : ℕ → Rule Stmt) where
   abbrev pub Declared : Form → ℕ → Rule (List Item)
   Declared f d = Then (IsDeclaration B (is_interface f) d) (λ ds. Empty (map item.Decl ds))
 
-  -- decl, or in a client decl | stmt
+  -- decl, or in a client decl | statement
   abbrev pub Items : Form → ℕ → Rule (List Item)
   Items form.Client d = Or (Declared form.Client d) (Then (S d) (λ x. Empty (item.Stmt x ∷ [])))
   Items (form.Library n) d = Declared (form.Library n) d

@@ -1,24 +1,30 @@
 -- The grammar of statements: which tokens spell which statement and which block.
 --
---   block   = "{" [ stmt { separator stmt } ] "}"
---   stmt    = ("let" | "var") name [":" type] "=" expr | "_" "=" expr
---           | "if" expr block { "else" "if" expr block } ["else" block]
---           | "while" expr block | "return" [expr] | "break" | "continue"
---           | "switch" expr "{" clause { clause } "}"
---           | "self" "." "init" args | "super" "." "init" args
---           | post ("=" | "+=" | "-=" | "*=" | "/=" | "%=") expr | expr
---   clause  = ("case" pattern { "," pattern } | "default" | "@" "unknown" "default") ":" stmt { separator stmt }
---   pattern = [type] "." name ["(" sub { "," sub } ")"] | ["-"] int | string | "true" | "false"
---   sub     = [name ":"] ("let" name | "_")
+--   block     = "{" [ statement { separator statement } ] "}"
+--   statement = ( "let" | "var" ) NAME [ ":" type ] "=" expr
+--             | "_" "=" expr
+--             | "if" expr block { "else" "if" expr block } [ "else" block ]
+--             | "while" expr block
+--             | "return" [ expr ] | "break" | "continue"
+--             | "switch" expr "{" clause { clause } "}"
+--             | "self" "." "init" arguments | "super" "." "init" arguments
+--             | post ( "=" | "+=" | "-=" | "*=" | "/=" | "%=" ) expr | expr
+--   clause    = label ":" statement { separator statement }
+--   label     = "case" pattern { "," pattern } | "default" | "@" "unknown" "default"
+--   pattern   = "." NAME [ payload ] | type "." NAME [ payload ]
+--             | [ "-" ] INT | STRING | "true" | "false"
+--   payload   = "(" binder { "," binder } ")"
+--   binder    = [ NAME ":" ] ( "let" NAME | "_" )
 --
--- A separator is a semicolon, or nothing where the next token stands on a later line than the one before it. Behind a separator no
--- statement begins with ".". The value of `return` begins on its line. Nothing that begins with "-" or "!" and no chain of operators
--- is assigned to, and operators that assign are infix by the white space beside them, but for "=". `self.init` and `super.init` stand
--- in initialisers alone. A clause for all that is left is the last one. The "{" of blocks and of `switch` and the "(" of a pattern nest.
+-- A separator is a `;`, or nothing where the next statement begins on a later line. Behind a separator no statement begins with `.`. The
+-- value of a `return` begins on its line. What begins with `-` or `!`, and operands with operators between them, are not assigned to; `=`
+-- stands with any white space, the other operators that assign are infix. `self.init` and `super.init` stand in initialisers alone. A
+-- clause for all that is left is the last one. The `{` of blocks and of `switch` and the `(` of a payload nest.
 use Rattle.std.specs.Prelude.{ℕ, zero, suc, ◌-◌, ◌^◌, List, [], ◌∷◌, ◌++◌, Bool, true, false, not, ◌||◌, ◌&&◌, Option, Some, None, codes, if◌then◌else◌}
 use Rattle.evo_base.specs.declared.place.Place.{Place}
 use Rattle.evo_combinators.specs.Rule.{Empty, Fail, TokenThen, One, Or, Then, Many}
 use Rattle.evo_combinators.specs.Guard.{On, Run}
+use Rattle.evo_lex.specs.Front.{when}
 use Rattle.evo_tree.specs.declared.name.Identifier.{Identifier}
 use Rattle.evo_tree.specs.declared.name.TypeName.{TypeName}
 use Rattle.evo_tree.specs.declared.expression.Expr.{Expr, Expr-F, out-Expr}
@@ -39,7 +45,7 @@ use Rattle.evo_tree.specs.declared.statement.Stmt.TheVariants as s
 use Rattle.evo_tree.specs.declared.terminal.Terminal.{Terminal}
 use Rattle.evo_tree.specs.declared.terminal.Terminal.TheVariants as t
 use Rattle.evo_tree.specs.declared.terminal.Role.TheVariants as role
-use Rattle.evo_tree.specs.Pieces.{Piece, is_terminal, has_role, placed, mark, identifier, word, integer, string, negative}
+use Rattle.evo_tree.specs.Pieces.{Piece, is_terminal, has_role, placed, mark, identifier, word, integer, string}
 use Rattle.evo_tree.specs.Expressions.{Rule, Nested, Unary, IsExpr, Call}
 use Rattle.evo_tree.specs.Types.{type_head, IsType}
 
@@ -66,6 +72,10 @@ assigning k = None
 -- takes an operator that assigns
 unfoldable pub assigns : Piece → Option AssignmentOperator
 assigns p = if is_terminal t.Equal p || has_role role.Infix p then assigning p.terminal else None
+
+-- takes `-` directly before what it belongs to; a text has an integer there only behind one that is negative
+unfoldable pub attached_minus : Piece → Option Place
+attached_minus p = when (is_terminal t.Minus p && (has_role role.Negative p || has_role role.Prefix p)) p.place
 
 -- stands on the line of the token before it
 unfoldable pub is_here : Piece → Bool
@@ -137,27 +147,27 @@ is_last_branch before b = has_none b.0
 
 -- ---- patterns
 
--- "let" name | "_"
+-- "let" NAME | "_"
 abbrev pub BindingPattern : Option Identifier → Rule Binding
 BindingPattern l = Or (TokenThen (mark t.Let) (λ _. TokenThen identifier (λ n. Empty (binding l (Some n))))) (TokenThen (mark t.Underscore) (λ _. Empty (binding l None)))
 
--- [ name ":" ] ("let" name | "_")
+-- binder
 abbrev pub PayloadPattern : Rule Binding
 PayloadPattern = Or (TokenThen identifier (λ l. TokenThen (mark t.Colon) (λ _. BindingPattern (Some l)))) (BindingPattern None)
 
--- sub { "," sub }
+-- binder { "," binder }
 abbrev pub Subs : Rule (List Binding)
 Subs = Then PayloadPattern (λ b. Then (Many (mark t.Comma) (λ _. PayloadPattern)) (λ bs. Empty (b ∷ bs)))
 
--- sub { "," sub } ")"
+-- binder { "," binder } ")"
 abbrev pub PayloadTail : Rule (List Binding)
 PayloadTail = Then Subs (λ bs. TokenThen (mark t.CloseParenthesis) (λ _. Empty bs))
 
--- [ "(" sub { "," sub } ")" ], where so much nesting may open
+-- [ payload ], where so much nesting may open
 abbrev pub Payload : ℕ → Rule (Option (List Binding))
 Payload d = Or (Nested d (mark t.OpenParenthesis) (λ _. Then PayloadTail (λ bs. Empty (Some bs)))) (Empty None)
 
--- "." name { "." name }, behind a name or `Self`
+-- "." NAME { "." NAME }, behind a name or `Self`
 abbrev pub Path : Place × List ℕ → Rule (TypeName × Identifier)
 Path head = TokenThen (mark t.Dot) (λ _. TokenThen identifier (λ n. Then (Many (mark t.Dot) (λ _. One identifier)) (λ ns. Empty (path_of head.0 (head.1 ∷ []) n ns))))
 
@@ -165,10 +175,11 @@ Path head = TokenThen (mark t.Dot) (λ _. TokenThen identifier (λ n. Then (Many
 abbrev pub Magnitude : Place → Rule Pattern
 Magnitude p = TokenThen (integer (2 ^ 63)) (λ v. Empty (pattern.Negative p v.1))
 
+-- pattern, where so much nesting may open
 abbrev pub IsPattern : ℕ → Rule Pattern
 IsPattern d = Or (TokenThen (mark t.Dot) (λ p. TokenThen identifier (λ n. Then (Payload d) (λ bs. Empty (pattern.Case p None n bs)))))
     (Or (TokenThen type_head (λ head. Then (Path head) (λ path. Then (Payload d) (λ bs. Empty (case_of_type path head.0 bs)))))
-    (Or (TokenThen negative Magnitude)
+    (Or (TokenThen attached_minus Magnitude)
     (Or (TokenThen (integer (2 ^ 63 - 1)) (λ v. Empty (pattern.Integer v.0 v.1)))
     (Or (TokenThen string (λ v. Empty (pattern.String v.0 v.1)))
     (Or (TokenThen (mark t.True) (λ p. Empty (pattern.Boolean p true)))
@@ -192,15 +203,15 @@ no_longer_first first x = false
 abbrev pub Statements : Rule Stmt → Bool → Rule (List Stmt)
 Statements S first = Run (statement_at S) no_longer_first first
 
--- stmt { separator stmt }
+-- statement { separator statement }
 abbrev pub SomeStatements : Rule Stmt → Rule (List Stmt)
 SomeStatements S = Then S (λ x. Then (Statements S false) (λ xs. Empty (x ∷ xs)))
 
--- [ stmt { separator stmt } ] "}"
+-- [ statement { separator statement } ] "}"
 abbrev pub BlockTail : Rule Stmt → Place → Rule Block
 BlockTail S p = Then (Statements S true) (λ ss. TokenThen (mark t.CloseBrace) (λ q. Empty (block p ss q)))
 
--- "{" statements "}", where so much nesting may open
+-- block, where so much nesting may open
 abbrev pub BlockOf : ℕ → Rule Stmt → Rule Block
 BlockOf d S = Or (Nested d (mark t.OpenBrace) (BlockTail S)) Fail
 
@@ -210,13 +221,13 @@ BlockOf d S = Or (Nested d (mark t.OpenBrace) (BlockTail S)) Fail
 abbrev pub Patterns : ℕ → Rule (List Pattern)
 Patterns d = Then (IsPattern d) (λ x. Then (Many (mark t.Comma) (λ _. IsPattern d)) (λ xs. Empty (x ∷ xs)))
 
--- "case" pattern { "," pattern } | "default" | "@" "unknown" "default"
+-- label, with its place
 abbrev pub Label : ℕ → Rule (Place × ClauseLabel)
 Label d = Or (TokenThen (mark t.Case) (λ p. Then (Patterns d) (λ xs. Empty (p, label.Case xs))))
     (Or (TokenThen (mark t.Default) (λ p. Empty (p, label.Default)))
     (TokenThen (mark t.At) (λ p. TokenThen (word (codes "unknown")) (λ _. TokenThen (mark t.Default) (λ _. Empty (p, label.UnknownDefault))))))
 
--- label ":" stmt { separator stmt }
+-- clause
 abbrev pub IsClause : ℕ → Rule Stmt → Rule Clause
 IsClause d S = Then (Label d) (λ l. TokenThen (mark t.Colon) (λ _. Then (SomeStatements S) (λ ss. Empty (clause l ss))))
 
@@ -234,7 +245,7 @@ abbrev pub less : ℕ → ℕ
 less zero = zero
 less (suc d) = d
 
--- "{" clauses "}", where so much nesting may open
+-- "{" clause { clause } "}", where so much nesting may open
 abbrev pub ClausesOf : ℕ → Rule Stmt → Rule (List Clause)
 ClausesOf d S = Or (Nested d (mark t.OpenBrace) (λ _. ClausesTail (less d) S)) Fail
 
@@ -246,7 +257,7 @@ abbrev pub Annotation : Rule (Option TypeName)
 Annotation = Or (TokenThen (mark t.Colon) (λ _. Then IsType (λ n. Empty (Some n)))) (Empty None)
 
 module _ (inits : Bool) (d : ℕ) (E : Rule Expr) (A : Rule (List (Option Identifier × Expr))) (S : Rule Stmt) where
-  -- name [ ":" type ] "=" expr
+  -- NAME [ ":" type ] "=" expr
   abbrev pub LocalTail : Place × Introducer → Rule Stmt
   LocalTail i = TokenThen identifier (λ n. Then Annotation (λ ty. TokenThen (mark t.Equal) (λ _. Then E (λ y. Empty (s.Local i.0 i.1 n ty y)))))
 
@@ -279,14 +290,15 @@ module _ (inits : Bool) (d : ℕ) (E : Rule Expr) (A : Rule (List (Option Identi
   abbrev pub Value : Rule (Option Expr)
   Value = Or (Then (On is_here E) (λ y. Empty (Some y))) (Empty None)
 
+  -- [ expr ], as a statement
   abbrev pub ReturnTail : Place → Rule Stmt
   ReturnTail p = Then Value (λ y. Empty (s.Return p y))
 
-  -- expr "{" clauses "}"
+  -- expr "{" clause { clause } "}"
   abbrev pub SwitchTail : Place → Rule Stmt
   SwitchTail p = Then E (λ y. Then (ClausesOf d S) (λ cs. Empty (s.Switch p y cs)))
 
-  -- "." "init" args
+  -- "." "init" arguments
   abbrev pub InitTail : (List (Option Identifier × Expr) → Stmt) → Rule Stmt
   InitTail f = TokenThen (mark t.Dot) (λ _. TokenThen (mark t.Init) (λ _. Then A (λ as'. Empty (f as'))))
 
@@ -298,11 +310,12 @@ module _ (inits : Bool) (d : ℕ) (E : Rule Expr) (A : Rule (List (Option Identi
   abbrev pub Action : Rule Stmt
   Action = Then E AssignmentTail
 
-  -- "self" "." "init" args | "super" "." "init" args | action
+  -- "self" "." "init" arguments | "super" "." "init" arguments | post operator expr | expr
   abbrev pub ActionOf : Bool → Rule Stmt
   ActionOf false = Action
   ActionOf true = Or (TokenThen (mark t.SelfValue) (λ p. InitTail (s.SelfInit p))) (Or (TokenThen (mark t.Super) (λ p. InitTail (s.SuperInit p))) Action)
 
+  -- statement
   abbrev pub StmtOf : Rule Stmt
   StmtOf = Or (TokenThen introduces LocalTail)
       (Or (TokenThen (mark t.Underscore) DiscardTail)

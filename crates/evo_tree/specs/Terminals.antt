@@ -1,5 +1,5 @@
 -- The terminal symbols of the grammar, by the kind and the text of a token.
-use Rattle.std.specs.Prelude.{ℕ, List, [], ◌∷◌, codes, Bool, ◌==◌, if◌then◌else◌}
+use Rattle.std.specs.Prelude.{ℕ, List, [], ◌∷◌, codes, ◌==◌, if◌then◌else◌}
 use Rattle.std.specs.Str.{bytes_eq}
 use Rattle.evo_base.specs.declared.token.TokenKind.{TokenKind}
 use Rattle.evo_base.specs.declared.token.TokenKind.TheVariants as kind

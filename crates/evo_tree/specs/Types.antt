@@ -1,7 +1,7 @@
 -- The grammar of written types.
 --
---   type = (name | "Self") { "." name }
-use Rattle.std.specs.Prelude.{ℕ, List, [], ◌∷◌, Option, Some, None, ◌&&◌, ◌||◌, codes}
+--   type = ( NAME | "Self" ) { "." NAME }
+use Rattle.std.specs.Prelude.{ℕ, List, ◌∷◌, Option, ◌&&◌, ◌||◌}
 use Rattle.std.specs.Str.{is_utf8}
 use Rattle.evo_base.specs.declared.place.Place.{Place}
 use Rattle.evo_combinators.specs.Rule.{Empty, One, Then, Many}
@@ -22,5 +22,6 @@ plain_name p = when (is_identifier p) p.text
 abbrev pub type_name : Place × List ℕ → List (List ℕ) → TypeName
 type_name head names = record { place = head.0; names = head.1 ∷ names }
 
+-- type
 abbrev pub IsType : Rule TypeName
 IsType = Then (One type_head) (λ head. Then (Many (mark t.Dot) (λ _. One plain_name)) (λ names. Empty (type_name head names)))

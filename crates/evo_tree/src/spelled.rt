@@ -1,10 +1,9 @@
 //! Modules that some text spells.
 
-ghost use Rattle.std.specs.Prelude.{◌≡◌, IfOk};
+ghost use Rattle.std.specs.Prelude.{◌≡◌};
 ghost use Rattle.evo_tree.specs.Spelled.{IsSpelled};
 
 use crate::module::ModuleTree;
-use std::alloc::{AllocError, Global};
 use std::marker::Model;
 
 /// A module: a tree that some text spells, but for its places. Contracts see it as that tree.
@@ -50,14 +49,5 @@ impl Module {
     {
         let Module { tree } = self;
         tree
-    }
-
-    /// An equal module.
-    pub fn copy(&self, alloc: Global) -> Result<Module, AllocError>
-        ensures { IfOk result (λ copy. copy ≡ self.now) }
-    {
-        Ok(Module {
-            tree: self.tree.copy(alloc)?,
-        })
     }
 }

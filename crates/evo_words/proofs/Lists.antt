@@ -1,7 +1,5 @@
 -- Lists of six words.
-use Rattle.std.proofs.Common.{◌≡◌, ℕ, ◌<◌, ◌≤◌, false, List, [], ◌∷◌, length, get_or, arith}
-use Rattle.std.specs.Str.{bytes_eq}
-use Rattle.std.proofs.lemmas.Slice.Eq.{bytes_eq-Decides}
+use Rattle.std.proofs.Common.{◌≡◌, ℕ, ◌<◌, ◌≤◌, List, [], ◌∷◌, length, get_or, arith}
 
 pub six_words : (xs : List (List ℕ)) (a b c d e f : List ℕ) → 6 ≤ length xs → length xs < 7 → a ≡ get_or xs 0 a → b ≡ get_or xs 1 b → c ≡ get_or xs 2 c → d ≡ get_or xs 3 d → e ≡ get_or xs 4 e → f ≡ get_or xs 5 f → xs ≡ a ∷ b ∷ c ∷ d ∷ e ∷ f ∷ []
 six_words [] a b c d e f le lt p0 p1 p2 p3 p4 p5 = absurd (omega arith)
@@ -12,6 +10,3 @@ six_words (x ∷ y ∷ z ∷ u ∷ []) a b c d e f le lt p0 p1 p2 p3 p4 p5 = abs
 six_words (x ∷ y ∷ z ∷ u ∷ v ∷ []) a b c d e f le lt p0 p1 p2 p3 p4 p5 = absurd (omega arith)
 six_words (x ∷ y ∷ z ∷ u ∷ v ∷ w ∷ []) a b c d e f le lt p0 p1 p2 p3 p4 p5 = cc
 six_words (x ∷ y ∷ z ∷ u ∷ v ∷ w ∷ s ∷ xs) a b c d e f le lt p0 p1 p2 p3 p4 p5 = absurd (omega arith)
-
-pub unequal : (xs ys : List ℕ) → bytes_eq xs ys ≡ false → xs ≡ ys → ⊥
-unequal xs ys differ e = let yes = (bytes_eq-Decides xs ys).1 e in absurd cc

@@ -1,3 +1,2 @@
-pub mod Module
 pub mod Words
 pub mod Laws

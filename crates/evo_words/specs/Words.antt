@@ -2,7 +2,7 @@
 use Rattle.std.specs.Prelude.{◌≡◌, ℕ, ◌^◌, ◌<◌, List, [], ◌∷◌, codes, length}
 use Rattle.std.specs.Fmt.{decimal}
 use Rattle.evo_words.specs.declared.words.Job.{Job}
-use Rattle.evo_words.specs.Module.{IsModule}
+use Rattle.evo_lex.specs.ModuleName.{IsModule}
 
 -- evolve MODULE OLD NEW CLIENT TICKS
 pub record IsEvolve (words : List (List ℕ)) (job : Job) : Type 0 where

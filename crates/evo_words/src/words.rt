@@ -4,9 +4,8 @@ ghost use Rattle.std.specs.Prelude.{◌≡◌, IfOk, MatchOption};
 ghost use Rattle.evo_words.specs.Words.{IsEvolve};
 ghost use Rattle.evo_words.specs.declared.words.Job.{Job};
 
-use crate::module_name::is_module;
-use crate::number::number_of;
 use evo_base::Name;
+use evo_lex::{is_module, number_of};
 use std::alloc::{AllocError, Global};
 
 /// What `evolve MODULE OLD NEW CLIENT TICKS` asks for: two library sources and a client, by name,
@@ -25,15 +24,6 @@ pub struct Job {
     pub ticks: u64,
 }
 
-fn text_of(name: &Name) -> &str
-    ensures { result.now ≡ name.now }
-{
-    match str::from_utf8(name.as_slice()) {
-        Ok(text) => text,
-        Err(_) => unreachable!(),
-    }
-}
-
 /// The job that the words ask for, the first word being the command. An error is want of memory.
 pub fn job_of(alloc: Global, words: &[Name]) -> Result<Option<Job>, AllocError>
     ensures { IfOk result (λ r. MatchOption r ((job : Job) → IsEvolve words.now job → ⊥) (IsEvolve words.now)) }
@@ -44,7 +34,7 @@ pub fn job_of(alloc: Global, words: &[Name]) -> Result<Option<Job>, AllocError>
     if verb.as_slice() != b"evolve".as_slice() {
         return Ok(None);
     }
-    if !is_module(text_of(library)) {
+    if !is_module(library.as_str()) {
         return Ok(None);
     }
     if old.as_slice().is_empty() || new.as_slice().is_empty() || client.as_slice().is_empty() {

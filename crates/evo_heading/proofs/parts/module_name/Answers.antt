@@ -1,6 +1,6 @@
 use Rattle.std.proofs.Common.{[], ◌∷◌, false, sym}
 use Rattle.std.specs.Prelude.{IsTrue}
-use Rattle.evo_words.specs.Module.{IsModule}
+use Rattle.evo_lex.specs.ModuleName.{IsModule}
 use Rattle.evo_heading.proofs.Fronts.{not_stripped}
 use Rattle.evo_heading.proofs.Names.{no_space_behind, no_text, no_module}
 use Rattle.evo_heading.proofs.parts.module_name.Goals as goal

@@ -8,10 +8,11 @@ returns-in_default c = no_number c.args.text.now c.split_at.result.0.now c.split
 
 pub returns-in_default-try_from : goal.returns-in_default-try_from
 returns-in_default-try_from c =
-    let fits : c.in-Some.number < 2 ^ 64 = search rules in
-    large_number c.args.text.now c.split_at.result.0.now c.split_at.result.1.now c.digits_len.result c.digits_len.ensures.value c.split_at.ensures.front c.split_at.ensures.back c.in-Some.number fits (rw c.in-Some.is at c.in_ok-number.ensures) c.in_default-try_from.ensures
+    let written = rw c.in-Some.is at c.in_ok-number.ensures in
+    large_number c.args.text.now c.split_at.result.0.now c.split_at.result.1.now c.digits_len.result c.digits_len.ensures.value c.split_at.ensures.front c.split_at.ensures.back c.in-Some.number written.1 written.0 c.in_default-try_from.ensures
 
 pub returns : goal.returns
 returns c =
     let small : c.in-Ok.number < 2 ^ 32 = search rules in
-    numbered c.args.text.now c.split_at.result.0.now c.split_at.result.1.now c.digits_len.result c.digits_len.ensures.value c.split_at.ensures.front c.split_at.ensures.back c.in-Ok.number small ((rw c.in-Some.is at c.in_ok-number.ensures) ∙ ap decimal (sym c.in-Ok.ensures.1))
+    let written = rw c.in-Some.is at c.in_ok-number.ensures in
+    numbered c.args.text.now c.split_at.result.0.now c.split_at.result.1.now c.digits_len.result c.digits_len.ensures.value c.split_at.ensures.front c.split_at.ensures.back c.in-Ok.number small (written.0 ∙ ap decimal (sym c.in-Ok.ensures.1))

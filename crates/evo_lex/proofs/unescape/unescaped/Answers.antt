@@ -1,4 +1,4 @@
-use Rattle.std.proofs.Common.{◌≡◌, ℕ, zero, suc, ◌+◌, ◌-◌, ◌<◌, List, ◌∷◌, ◌++◌, drop, get_or, drop-cons, add-one, sym, ◌∙◌, ap, arith, refl}
+use Rattle.std.proofs.Common.{◌≡◌, ℕ, zero, suc, ◌+◌, ◌-◌, ◌<◌, List, ◌∷◌, ◌++◌, drop, get_or, drop-cons, add-one, sym, ◌∙◌, ap, arith}
 use Rattle.evo_lex.specs.Strings.{unescaped}
 use Rattle.evo_lex.proofs.unescape.unescaped.Goals as goal
 
