@@ -1,11 +1,11 @@
 -- That tokens have one answer.
-use Rattle.std.proofs.Common.{◌≡◌, ℕ, zero, suc, ◌+◌, ◌-◌, ◌<◌, ◌≤◌, Bool, List, [], ◌∷◌, ◌++◌, length, take, Option, refl, sym, ◌∙◌, ap, subst, arith, inl, inr, ◌⊎◌, append_assoc, append-nil}
+use Rattle.std.proofs.Common.{◌≡◌, ℕ, zero, suc, ◌+◌, ◌-◌, ◌<◌, ◌≤◌, Bool, List, [], ◌++◌, length, take, Option, refl, sym, ◌∙◌, ap, subst, arith, inl, inr, ◌⊎◌, append_assoc, append-nil}
 use Rattle.std.specs.Prelude.{slice_range}
 use Rattle.std.proofs.lemmas.List.{take_all}
 use Rattle.evo_combinators.specs.Rule.{IsViablePrefix}
 use Rattle.evo_combinators.specs.Reader.{Reader}
 use Rattle.evo_combinators.specs.Laws.{NoneGoes, GrammarOf}
-use Rattle.evo_combinators.specs.Contract.{IsReadTo, IsRefusedAt, IsDeepAt, IsRefusedIn, OneAnswer, OneOutcome}
+use Rattle.evo_combinators.specs.Contract.{IsDeepAt, IsRefusedIn, OneAnswer, OneOutcome}
 use Rattle.evo_combinators.proofs.Faults.{one_value}
 use Rattle.evo_combinators.proofs.Ranges.{first_within, range_longer}
 

@@ -1,7 +1,6 @@
 -- A loop that counts up, beside `many`.
-use Rattle.std.specs.Prelude.{◌≡◌, ℕ, suc, ◌+◌, ◌-◌, ◌<◌, ◌≤◌, List, [], ◌∷◌, ◌++◌, length, Option, Some, None, Ok, Err, refl}
-use Rattle.std.proofs.Common.{sym, ◌∙◌, ap, arith, append-nil, append_assoc}
-use Rattle.evo_combinators.specs.declared.Fault.{Fault}
+use Rattle.std.specs.Prelude.{◌≡◌, ℕ, suc, ◌+◌, ◌-◌, ◌<◌, List, [], ◌∷◌, ◌++◌, length, Option, Some, Ok, Err, refl}
+use Rattle.std.proofs.Common.{sym, ◌∙◌, ap, arith, append_assoc}
 use Rattle.evo_combinators.specs.Reader.{Outcome, Reader, and_then, ◌>>=◌, pure, lead, branch, many_from, many, with_front}
 
 pub front_none : {T B : Type 0} (o : Outcome T (List B)) → o ≡ with_front [] o
@@ -30,24 +29,14 @@ module _ {T A B : Type 0} (f : T → Option A) (q : A → Reader T B) where
   turn_begin found ts = let n : length ts ≡ length ts - 0 = omega arith in ap (λ k. with_front found (many_from f q k ts)) n
 
   module _ (o : Outcome T (List B)) (e i : ℕ) (found : List B) (ts : List T) (is : o ≡ After (e - i) found ts) where
-    pub turn_end : e ≤ i → o ≡ Ok (found, ts)
-    turn_end done = let n : e - i ≡ 0 = omega arith in is ∙ ap (λ k. After k found ts) n ∙ ap (λ x. Ok (x, ts)) (append-nil found)
-
     opened : i < e → o ≡ After (suc (e - (i + 1))) found ts
     opened below = let n : e - i ≡ suc (e - (i + 1)) = omega arith in is ∙ ap (λ k. After k found ts) n
 
     abbrev Rest : ℕ → A → Reader T (List B)
     Rest n a = q a >>= (λ b. many_from f q n >>= (λ bs. pure (b ∷ bs)))
 
-    pub turn_none : i < e → lead f ts ≡ None → o ≡ Ok (found, ts)
-    turn_none below none = opened below ∙ ap (λ l. with_front found (branch l (Rest (e - (i + 1))) (Ok ([], ts)))) none ∙ ap (λ x. Ok (x, ts)) (append-nil found)
-
     led : i < e → (a : A) (us : List T) → lead f ts ≡ Some (a, us) → o ≡ with_front found (Rest (e - (i + 1)) a us)
     led below a us some = opened below ∙ ap (λ l. with_front found (branch l (Rest (e - (i + 1))) (Ok ([], ts)))) some
-
-    pub turn_err : i < e → (a : A) (us : List T) (d : Fault) → lead f ts ≡ Some (a, us) → q a us ≡ Err d → o ≡ Err d
-    turn_err below a us d some bad =
-        led below a us some ∙ ap (λ x. with_front found (and_then x (λ b. many_from f q (e - (i + 1)) >>= (λ bs. pure (b ∷ bs))))) bad
 
     pub turn_more : i < e → (a : A) (us : List T) (b : B) (rest : List T) → lead f ts ≡ Some (a, us) → q a us ≡ Ok (b, rest) →
         o ≡ After (e - (i + 1)) (found ++ b ∷ []) rest

@@ -2,13 +2,12 @@
 use Rattle.std.specs.Prelude.{◌≡◌, ℕ, zero, suc, ◌+◌, ◌≤◌, ◌==◌, if◌then◌else◌, Bool, true, false, cond, not, List, [], ◌∷◌, ◌++◌, length, Option, Some, None, Ok, Err, ◌⊎◌, refl}
 use Rattle.std.proofs.Common.{sym, ◌∙◌, ap, subst, inl, inr, arith, length-append, append-nil}
 use Rattle.std.proofs.lemmas.Bool.Decides.{Decides-eqb}
-use Rattle.evo_combinators.specs.declared.Fault.{Fault}
 use Rattle.evo_combinators.specs.declared.Fault.TheVariants.{Grammar, Deep}
 use Rattle.evo_combinators.specs.Reader.{Outcome, Reader, and_then, ◌>>=◌, pure}
 use Rattle.evo_combinators.specs.Rule.{Empty, Or, Then, IsViablePrefix}
 use Rattle.evo_combinators.specs.Guard.{starts, on, Run, run_from, run}
 use Rattle.evo_combinators.specs.Attempt.{attempted, attempt, further, tries_from, tries}
-use Rattle.evo_combinators.specs.Laws.{Begins, GrowsWithNesting, SameLookahead, ReadsRule, Same, first, of_first}
+use Rattle.evo_combinators.specs.Laws.{Begins, GrowsWithNesting, SameLookahead, ReadsRule, first, of_first}
 use Rattle.evo_combinators.proofs.Laws.{SameLookahead-refl, right_ext, right_map, right_pure, right_stop, split_err}
 use Rattle.evo_combinators.proofs.GuardLaws.{starts_is, right_on, which}
 use Rattle.evo_combinators.proofs.RunLaws.{right_run}
@@ -44,9 +43,6 @@ kept (Err (Deep k)) ts other = refl
 
 pub attempted_none : {T A : Type 0} (ts : List T) → attempted {A = A} (Err (Grammar (length ts))) ts ≡ Ok (None, ts)
 attempted_none ts = ap (λ b. if b then Ok (None, ts) else Err (Grammar (length ts))) ((Decides-eqb (length ts) (length ts)).1 refl)
-
-pub attempted_err : {T A : Type 0} (d : Fault) (ts : List T) → (d ≡ Grammar (length ts) → ⊥) → attempted {A = A} (Err d) ts ≡ Err d
-attempted_err d ts other = kept (Err d) ts (λ e. other (let same : d ≡ Grammar (length ts) = cc in same))
 
 first_same : {T : Type 0} (t u : T) (ts us rest vs : List T) → t ∷ ts ≡ us ++ rest → us ≡ u ∷ vs → u ≡ t
 first_same t u ts us rest vs cut is = let both = sym (ap first (cut ∙ ap (λ x. x ++ rest) is)) in cc

@@ -2,7 +2,7 @@
 use Rattle.std.specs.Prelude.{◌≡◌, ℕ, suc, ◌≤◌, List, [], ◌∷◌, ◌++◌, length, Option, Some, None, Err, refl}
 use Rattle.std.proofs.Common.{sym, ◌∙◌, ap, subst, inl, inr, arith, length-append}
 use Rattle.evo_combinators.specs.declared.Fault.TheVariants.{Grammar}
-use Rattle.evo_combinators.specs.Reader.{Reader, ◌>>=◌, alt, lead, branch, paired, bar, barred}
+use Rattle.evo_combinators.specs.Reader.{Reader, ◌>>=◌, alt, lead, branch, paired}
 use Rattle.evo_combinators.proofs.Laws.{SameLookahead-refl, split_err}
 use Rattle.evo_combinators.specs.Laws.{ReadsRule, Takes}
 
@@ -23,14 +23,6 @@ takes_alt {T} {A} {B} Stop S W f q r t right later us = go (f t) refl
   where
     go : (o : Option A) → f t ≡ o → branch (paired o us) q (r (t ∷ us)) ≡ Err (Grammar (suc (length us))) → ⊥
     go (Some a) is e = let short = refused_within Stop (S a) (W a) (q a) (λ n. right a n) us (suc (length us)) e in omega (arith, short)
-    go None is e = later is us e
-
-pub takes_bar : {T A B : Type 0} (f : T → Option A) (r : Reader T B) (t : T) → (f t ≡ None → Takes r t) → Takes (bar f r) t
-unfolding lead
-takes_bar {T} {A} {B} f r t later us = go (f t) refl
-  where
-    go : (o : Option A) → f t ≡ o → barred (paired o us) (suc (length us)) (r (t ∷ us)) ≡ Err (Grammar (suc (length us))) → ⊥
-    go (Some a) is e = cc
     go None is e = later is us e
 
 pub takes_then : {T A B : Type 0} (StopS StopR : Option T → Type 0) (S S' : List T → A → Type 0) (R R' : A → List T → B → Type 0) (p : Reader T A) (q : A → Reader T B) (t : T) →

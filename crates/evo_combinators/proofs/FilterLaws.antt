@@ -3,12 +3,11 @@ use Rattle.std.specs.Prelude.{◌≡◌, ℕ, suc, ◌+◌, ◌≤◌, Bool, tru
 use Rattle.std.proofs.Common.{sym, ◌∙◌, ap, subst, inl, inr, arith}
 use Rattle.evo_combinators.specs.declared.Fault.TheVariants.{Grammar}
 use Rattle.evo_combinators.specs.Reader.{Reader, refuse}
-use Rattle.evo_combinators.specs.Rule.{Or, IsViablePrefix}
+use Rattle.evo_combinators.specs.Rule.{IsViablePrefix}
 use Rattle.evo_combinators.specs.Guard.{starts, on, On}
-use Rattle.evo_combinators.proofs.Laws.{right_ext}
-use Rattle.evo_combinators.proofs.GuardLaws.{which, starts_is, starts_still, starts_same, enters_by, right_on}
+use Rattle.evo_combinators.proofs.GuardLaws.{which, starts_is, starts_still, starts_same, enters_by}
 use Rattle.evo_combinators.proofs.Faults.{same_by}
-use Rattle.evo_combinators.specs.Laws.{Begins, Enters, GrammarOf, SameLookahead, ReadsRule, first}
+use Rattle.evo_combinators.specs.Laws.{GrammarOf, SameLookahead, ReadsRule}
 
 module _ {T B : Type 0} (n : ℕ) (Stop : Option T → Type 0) (g : T → Bool) (S S' : List T → B → Type 0) (p : Reader T B) (right : ReadsRule n Stop S S' p) (some : (b : B) → S [] b → ⊥) where
   yes : (ts : List T) → starts g ts ≡ true → on g p refuse ts ≡ p ts
@@ -72,25 +71,6 @@ module _ {T B : Type 0} (n : ℕ) (Stop : Option T → Type 0) (g : T → Bool) 
       | inr is ↦ absurd (let bad = sym (no ts is) ∙ e in cc)
     ];
   }
-
--- the filtered reader before another one
-module _ {T B : Type 0} (n : ℕ) (Stop : Option T → Type 0) (g : T → Bool) (S S' R R' : List T → B → Type 0) (p r : Reader T B)
-    (right_p : ReadsRule n Stop S S' p) (some : (b : B) → S [] b → ⊥) (right_r : ReadsRule n Stop R R' r) (enters : Enters n g p)
-    (apart : (us rest : List T) (b : B) → R us b → Stop (first rest) → starts g (us ++ rest) ≡ false) where
-  inner : (ts : List T) (b : Bool) → starts g ts ≡ b → cond b (p ts) (r ts) ≡ cond b (cond (starts g ts) (p ts) (Err (Grammar (length ts)))) (r ts)
-  inner ts true is = sym (ap (λ c. cond c (p ts) (Err (Grammar (length ts)))) is)
-  inner ts false is = refl
-
-  begins_on : Begins (λ t. g t ≡ true) (On g S)
-  begins_on us b (t, vs, cut, is, s) = (t, vs, cut, is)
-
-  enters_on : Enters n g (on g p refuse)
-  enters_on t us fits is bad = enters t us fits is (sym (yes n Stop g S S' p right_p some (t ∷ us) (starts_is g (t ∷ us) ∙ is)) ∙ bad)
-
-  pub right_when : ReadsRule n Stop (Or (On g S) R) (Or (On g S') R') (on g p r)
-  right_when = right_ext n Stop (Or (On g S) R) (Or (On g S') R') (on g (on g p refuse) r) (on g p r)
-      (λ ts fits. inner ts (starts g ts) refl)
-      (right_on n Stop g (On g S) (On g S') R R' (on g p refuse) r (right_filter n Stop g S S' p right_p some) right_r begins_on enters_on apart)
 
 -- a token with which spellings of some nesting begin is not refused at any nesting
 module _ {T A : Type 0} (Stop : Option T → Type 0) (S : ℕ → List T → A → Type 0) (p : ℕ → Reader T A) (gram : GrammarOf Stop S p) where

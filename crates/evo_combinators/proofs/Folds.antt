@@ -1,5 +1,5 @@
 -- A loop that counts up and makes something of what it reads, beside `many`.
-use Rattle.std.specs.Prelude.{◌≡◌, ℕ, suc, ◌+◌, ◌-◌, ◌<◌, ◌≤◌, List, [], ◌∷◌, length, Option, Some, None, Ok, Err, refl}
+use Rattle.std.specs.Prelude.{◌≡◌, ℕ, suc, ◌+◌, ◌-◌, ◌<◌, List, [], ◌∷◌, length, Option, Some, None, Ok, Err, refl}
 use Rattle.std.proofs.Common.{◌∙◌, ap, arith}
 use Rattle.evo_combinators.specs.declared.Fault.{Fault}
 use Rattle.evo_combinators.specs.Reader.{Outcome, Reader, and_then, ◌>>=◌, pure, lead, branch, many_from, many}
@@ -18,9 +18,6 @@ module _ {T A B St C : Type 0} (f : T → Option A) (q : A → Reader T B) (make
   made s b (Err d) = refl
 
   module _ (o : Outcome T C) (e i : ℕ) (s : St) (ts : List T) (is : o ≡ FoldAfter (e - i) s ts) where
-    pub fold_end : e ≤ i → o ≡ Ok (make s [], ts)
-    fold_end done = let n : e - i ≡ 0 = omega arith in is ∙ ap (λ k. FoldAfter k s ts) n
-
     abbrev Rest : ℕ → A → Reader T (List B)
     Rest n a = q a >>= (λ b. many_from f q n >>= (λ bs. pure (b ∷ bs)))
 

@@ -1,16 +1,11 @@
 -- A reader that allows more nesting reads the same, but where the other one met one nesting too many.
-use Rattle.std.specs.Prelude.{◌≡◌, ℕ, zero, suc, List, [], ◌∷◌, length, Option, Some, None, Result, Ok, Err, refl}
+use Rattle.std.specs.Prelude.{ℕ, zero, suc, List, [], ◌∷◌, length, Option, Some, None, Ok, Err, refl}
 use Rattle.std.proofs.Common.{◌∙◌, ap, inl, inr}
-use Rattle.evo_combinators.specs.declared.Fault.{Fault}
-use Rattle.evo_combinators.specs.declared.Fault.TheVariants.{Deep}
 use Rattle.evo_combinators.specs.Reader.{Outcome, Reader, and_then, ◌>>=◌, pure, branch, alt, barred, lead, bar, many_from, many}
 use Rattle.evo_combinators.specs.Laws.{GrowsWithNesting, Same}
 
 pub same_refl : {T A : Type 0} (p : Reader T A) → GrowsWithNesting p p
 same_refl p ts = inl refl
-
-ok_deep : {T A : Type 0} (x : A × List T) (k : ℕ) → ◌≡◌ {A = Result (A × List T) Fault} (Ok x) (Err (Deep k)) → ⊥
-ok_deep x k e = cc
 
 module _ {T A B : Type 0} (p p' : Reader T A) (q q' : A → Reader T B) (dp : GrowsWithNesting p p') (dq : (a : A) → GrowsWithNesting (q a) (q' a)) where
   after : (o : Outcome T A) → Same (and_then o q) (and_then o q')

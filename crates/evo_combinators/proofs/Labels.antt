@@ -1,7 +1,7 @@
 -- A label before what is read: a name and a mark behind it, which the first two tokens decide.
-use Rattle.std.specs.Prelude.{◌≡◌, ℕ, suc, ◌+◌, ◌≤◌, Bool, true, false, List, [], ◌∷◌, ◌++◌, length, Option, Some, None, Ok, Err, refl}
-use Rattle.std.proofs.Common.{sym, ◌∙◌, ap, subst, inl, inr, arith, append-nil, append_assoc, length-append}
-use Rattle.evo_combinators.specs.declared.Fault.TheVariants.{Grammar, Deep}
+use Rattle.std.specs.Prelude.{◌≡◌, ℕ, suc, ◌+◌, ◌≤◌, Bool, true, false, List, [], ◌∷◌, ◌++◌, length, Option, Some, None, Err, refl}
+use Rattle.std.proofs.Common.{sym, ◌∙◌, ap, subst, inr, arith, append-nil, append_assoc, length-append}
+use Rattle.evo_combinators.specs.declared.Fault.TheVariants.{Grammar}
 use Rattle.evo_combinators.specs.Rule.{Empty, TokenThen, Or, Then, IsViablePrefix, SomeOf}
 use Rattle.evo_combinators.specs.Reader.{Reader, ◌>>=◌, pure, one}
 use Rattle.evo_combinators.specs.Guard.{two, starts, starts_two}

@@ -1,13 +1,12 @@
 -- Which tokens open a nesting, through the parts of a reader.
-use Rattle.std.specs.Prelude.{◌≡◌, ℕ, zero, suc, ◌+◌, ◌-◌, ◌<◌, ◌≤◌, Bool, true, false, cond, List, [], ◌∷◌, ◌++◌, length, Option, Some, None, Result, Ok, Err, refl}
+use Rattle.std.specs.Prelude.{◌≡◌, ℕ, zero, suc, ◌-◌, ◌≤◌, Bool, true, false, cond, List, [], ◌∷◌, ◌++◌, length, Option, Some, None, Ok, Err, refl}
 use Rattle.std.proofs.Common.{sym, ◌∙◌, ap, subst, inl, inr, ◌⊎◌, arith, append-nil, append_assoc, length-append}
-use Rattle.evo_combinators.specs.declared.Fault.{Fault}
 use Rattle.evo_combinators.specs.declared.Fault.TheVariants.{Grammar, Deep}
-use Rattle.evo_combinators.specs.Rule.{Empty, Fail, TokenThen, Or, Then, Many, IsViablePrefix, SomeOf}
+use Rattle.evo_combinators.specs.Rule.{Empty, TokenThen, Or, Then, Many, IsViablePrefix, SomeOf}
 use Rattle.evo_combinators.specs.Reader.{Outcome, Reader, and_then, ◌>>=◌, pure, refuse, alt, lead, branch, paired, one, bar, barred, many}
 use Rattle.evo_combinators.specs.Guard.{choose}
 use Rattle.evo_combinators.specs.Laws.{ReadsRule}
-use Rattle.evo_combinators.specs.Nesting.{left_at, left_of, Keeps, DeepOpens}
+use Rattle.evo_combinators.specs.Nesting.{left_of, Keeps, DeepOpens}
 use Rattle.evo_combinators.proofs.Laws.{many_step, right_many}
 
 goes_or_left : {T A : Type 0} (S R : List T → A → Type 0) (us : List T) → IsViablePrefix S us → IsViablePrefix (Or S R) us

@@ -1,17 +1,15 @@
 -- Which tokens open a nesting, through readers that try, look ahead or make something of what they read.
-use Rattle.std.specs.Prelude.{◌≡◌, ℕ, zero, suc, ◌==◌, if◌then◌else◌, ◌≤◌, Bool, true, false, cond, List, [], ◌∷◌, ◌++◌, length, Option, Some, None, Ok, Err, ◌⊎◌, refl}
+use Rattle.std.specs.Prelude.{◌≡◌, ℕ, zero, suc, ◌==◌, if◌then◌else◌, ◌≤◌, Bool, true, false, cond, List, [], ◌∷◌, ◌++◌, length, Option, Some, None, Ok, Err, refl}
 use Rattle.std.proofs.Common.{sym, ◌∙◌, ap, subst, inl, inr, arith, append-nil, length-append}
-use Rattle.std.proofs.lemmas.Bool.Decides.{Decides-eqb}
-use Rattle.evo_combinators.specs.declared.Fault.{Fault}
 use Rattle.evo_combinators.specs.declared.Fault.TheVariants.{Grammar, Deep}
 use Rattle.evo_combinators.specs.Rule.{Empty, Or, Then, IsViablePrefix, SomeOf}
 use Rattle.evo_combinators.specs.Reader.{Outcome, Reader, and_then, ◌>>=◌, pure}
 use Rattle.evo_combinators.specs.Guard.{starts, ahead, On, Run}
 use Rattle.evo_combinators.specs.Attempt.{attempted, attempt, further, tries_from, tries}
 use Rattle.evo_combinators.specs.Laws.{Begins, ReadsRule}
-use Rattle.evo_combinators.specs.Nesting.{left_of, Keeps, DeepOpens}
+use Rattle.evo_combinators.specs.Nesting.{left_of}
 use Rattle.evo_combinators.proofs.Laws.{of_map}
-use Rattle.evo_combinators.proofs.GuardLaws.{starts_is, starts_same}
+use Rattle.evo_combinators.proofs.GuardLaws.{starts_is}
 use Rattle.evo_combinators.proofs.Attempts.{right_attempt}
 use Rattle.evo_combinators.proofs.Nesting.{Nest, nest_pure, nest_then, nest_by}
 

@@ -4,9 +4,9 @@ use Rattle.std.proofs.Common.{sym, ◌∙◌, ap, subst, inl, inr, arith, length
 use Rattle.evo_combinators.specs.declared.Fault.TheVariants.{Grammar}
 use Rattle.evo_combinators.specs.Reader.{Outcome, Reader, and_then, ◌>>=◌, pure}
 use Rattle.evo_combinators.specs.Rule.{Empty, Or, Then}
-use Rattle.evo_combinators.specs.Guard.{starts, ahead, On, Run, run_from, run}
+use Rattle.evo_combinators.specs.Guard.{starts, Run, run_from, run}
 use Rattle.evo_combinators.proofs.Laws.{SameLookahead-refl, right_same, right_then_by, right_map, right_pure, right_ext, ok_parts, ok_both, split_err, to_map, of_map}
-use Rattle.evo_combinators.proofs.GuardLaws.{starts_is, right_on, ahead_yes, right_ahead}
+use Rattle.evo_combinators.proofs.GuardLaws.{starts_is, right_on}
 use Rattle.evo_combinators.specs.Laws.{Begins, Enters, ReadsRule, first, of_first}
 
 module _ {T B St : Type 0} (Stop StopQ : Option T → Type 0) (g : St → T → Bool) (S S' : St → List T → B → Type 0) (q : St → Reader T B) (next : St → B → St)
@@ -121,46 +121,3 @@ module _ {T B St : Type 0} (Stop StopQ : Option T → Type 0) (g : St → T → 
   unfolding run
   right_run n s = right_ext n Stop (Run S next s) (Run S' next s) (run_from g q next n s) (run g q next s)
       (λ ts fits. same_from (length ts) n s ts (omega arith) fits) (right_from n s)
-
--- ---- turns that need not look for themselves, since the loop does
-
-module _ {T B St : Type 0} (g : St → T → Bool) (q : St → Reader T B) (next : St → B → St) where
-  abbrev Looks : St → Reader T B
-  Looks s = ahead (g s) >>= (λ _. q s)
-
-  looks_from : (n : ℕ) (s : St) (ts : List T) → run_from g q next n s ts ≡ run_from g Looks next n s ts
-  looks_from zero s ts = refl
-  looks_from (suc n) s ts = same_turn (starts (g s) ts) refl (λ b rest. looks_from n (next s b) rest)
-    where
-      same_then : ((b : B) (rest : List T) → run_from g q next n (next s b) rest ≡ run_from g Looks next n (next s b) rest) → (o : Outcome T B) →
-          and_then o (λ b. run_from g q next n (next s b) >>= (λ bs. pure (b ∷ bs))) ≡ and_then o (λ b. run_from g Looks next n (next s b) >>= (λ bs. pure (b ∷ bs)))
-      same_then later (Ok (b, rest)) = ap (λ o. and_then o (λ bs. pure (b ∷ bs))) (later b rest)
-      same_then later (Err d) = refl
-
-      same_turn : (c : Bool) → starts (g s) ts ≡ c → ((b : B) (rest : List T) → run_from g q next n (next s b) rest ≡ run_from g Looks next n (next s b) rest) →
-          cond c (and_then (q s ts) (λ b. run_from g q next n (next s b) >>= (λ bs. pure (b ∷ bs)))) (Ok ([], ts))
-          ≡ cond c (and_then (Looks s ts) (λ b. run_from g Looks next n (next s b) >>= (λ bs. pure (b ∷ bs)))) (Ok ([], ts))
-      same_turn true is later =
-          same_then later (q s ts) ∙ ap (λ o. and_then o (λ b. run_from g Looks next n (next s b) >>= (λ bs. pure (b ∷ bs)))) (sym (ahead_yes (g s) (q s) ts is))
-      same_turn false is later = refl
-
-  looks_same : (s : St) (ts : List T) → run g q next s ts ≡ run g Looks next s ts
-  unfolding run
-  looks_same s ts = looks_from (length ts) s ts
-
-  module _ (Stop StopQ : Option T → Type 0) (S S' : St → List T → B → Type 0)
-      (right_q : (n : ℕ) (s : St) → ReadsRule n StopQ (S s) (S' s) (q s)) (some : (s : St) (b : B) → S s [] b → ⊥)
-      (entered : (s : St) (t : T) (us : List T) → g s t ≡ true → q s (t ∷ us) ≡ Err (Grammar (suc (length us))) → ⊥)
-      (ended : Stop None) (stops : (s : St) (x : Option T) → Stop x → of_first (g s) x ≡ false)
-      (ends : (x : Option T) → Stop x → StopQ x) (follow : (s : St) (b : B) (t : T) → g (next s b) t ≡ true → StopQ (Some t)) where
-    abbrev Seen : (St → List T → B → Type 0) → St → List T → B → Type 0
-    Seen R s = On (g s) (R s)
-
-    pub right_run_on : (n : ℕ) (s : St) → ReadsRule n Stop (Run (Seen S) next s) (Run (Seen S') next s) (run g q next s)
-    right_run_on n s =
-        right_ext n Stop (Run (Seen S) next s) (Run (Seen S') next s) (run g Looks next s) (run g q next s) (λ ts fits. looks_same s ts)
-        (right_run Stop StopQ g (Seen S) (Seen S') Looks next
-        (λ n s. right_ahead n StopQ (g s) (S s) (S' s) (q s) (right_q n s) (some s))
-        (λ s us b (t, vs, cut, is, r). (t, vs, cut, is))
-        (λ s t us is bad. entered s t us is (sym (ahead_yes (g s) (q s) (t ∷ us) (starts_is (g s) (t ∷ us) ∙ is)) ∙ bad))
-        ended stops ends follow n s)

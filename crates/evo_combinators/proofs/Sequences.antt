@@ -1,12 +1,10 @@
--- Rules that take a token and go on, repetitions with separators, and what a reader of the whole says.
-use Rattle.std.specs.Prelude.{◌≡◌, ℕ, List, [], ◌∷◌, ◌++◌, length, Option, Some, None, Ok, Err, refl}
-use Rattle.std.proofs.Common.{sym, ◌∙◌, ap, subst, arith, append-nil, length-append}
-use Rattle.std.proofs.Math.Nat.{le_refl}
-use Rattle.evo_combinators.specs.declared.Fault.{Fault}
+-- Rules that take a token and go on, and repetitions with separators.
+use Rattle.std.specs.Prelude.{◌≡◌, ℕ, List, [], ◌∷◌, ◌++◌, Option, Some, None, refl}
+use Rattle.std.proofs.Common.{◌∙◌, ap, subst, arith, length-append}
 use Rattle.evo_combinators.specs.Reader.{Reader, ◌>>=◌, one}
-use Rattle.evo_combinators.specs.Rule.{Empty, TokenThen, One, Then, Many, Repeat, SomeOf, IsOnly}
+use Rattle.evo_combinators.specs.Rule.{Empty, TokenThen, One, Then, Many, Repeat, SomeOf}
 use Rattle.evo_combinators.specs.Laws.{ReadsRule}
-use Rattle.evo_combinators.proofs.Laws.{right_same, right_then, right_then_by, right_one, ok_parts}
+use Rattle.evo_combinators.proofs.Laws.{right_same, right_then, right_then_by, right_one}
 
 pub some_only : {T A : Type 0} (a : A) → SomeOf (Empty {T = T} a)
 some_only a = ([], a, (refl, refl))
@@ -55,34 +53,3 @@ module _ {T A B : Type 0} (f : T → Option A) (S : A → List T → B → Type 
   of_repeat us (b ∷ bs) (vs, ws, cut, r, m) =
       let (t, a, xs, cut', takes, s) = from vs b r in
       (t, a, xs, ws, cut ∙ ap (λ x. x ++ ws) cut', takes, s, of_repeat ws bs m)
-
--- what a reader of all the tokens says of its rule
-module _ {T A : Type 0} (Stop : Option T → Type 0) (S W : List T → A → Type 0) (p : Reader T A) (right : (n : ℕ) → ReadsRule n Stop S W p) where
-  -- what is spelled is read
-  pub whole_read : (us : List T) (a : A) → S us a → p us ≡ Ok (a, [])
-  whole_read us a s =
-      ap p (sym (append-nil us)) ∙ (right (length (us ++ []))).complete us [] a (le_refl (length (us ++ []))) s (right 0).ended
-
-  -- what is read to the end is spelled
-  pub whole_spelled : (us : List T) (a : A) → p us ≡ Ok (a, []) → S us a
-  whole_spelled us a e =
-      let (vs, cut, s, again) = (right (length us)).sound us [] a (le_refl (length us)) e in
-      subst (λ x. S x a) (sym (cut ∙ append-nil vs)) s
-
-  -- tokens spell at most one value
-  pub whole_one : (us : List T) (a b : A) → S us a → S us b → a ≡ b
-  whole_one us a b s s' = (ok_parts (sym (whole_read us a s) ∙ whole_read us b s')).0
-
-  -- an answer at the end is the one value
-  pub whole_found : (us rest : List T) (a : A) → p us ≡ Ok (a, rest) → length rest ≡ 0 → IsOnly (S us) (Some a)
-  whole_found us [] a e none = (whole_spelled us a e, λ b s. (ok_parts (sym (whole_read us b s) ∙ e)).0)
-  whole_found us (t ∷ rest) a e none = absurd (omega arith)
-
-  -- an answer before the end says that there is none
-  pub whole_rest : (us rest : List T) (a : A) → p us ≡ Ok (a, rest) → (length rest ≡ 0 → ⊥) → IsOnly (S us) None
-  whole_rest us [] a e some b s = absurd (some refl)
-  whole_rest us (t ∷ rest) a e some b s = let none : ◌≡◌ {A = List T} [] (t ∷ rest) = (ok_parts (sym (whole_read us b s) ∙ e)).1 in cc
-
-  -- a fault says that there is none
-  pub whole_refused : (us : List T) (d : Fault) → p us ≡ Err d → IsOnly (S us) None
-  whole_refused us d e b s = let both = sym (whole_read us b s) ∙ e in cc

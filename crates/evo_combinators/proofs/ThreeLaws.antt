@@ -7,7 +7,6 @@ use Rattle.evo_combinators.specs.Rule.{Or}
 use Rattle.evo_combinators.specs.Guard.{starts, starts_two, second}
 use Rattle.evo_combinators.specs.Three.{starts_three, behind_first, three}
 use Rattle.evo_combinators.specs.Laws.{SameLookahead, ReadsRule, first}
-use Rattle.evo_combinators.proofs.Laws.{SameLookahead-refl}
 use Rattle.evo_combinators.proofs.GuardLaws.{starts_is, right_choose, which}
 use Rattle.evo_combinators.proofs.Entered.{refused_within}
 

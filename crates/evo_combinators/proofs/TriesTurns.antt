@@ -1,7 +1,6 @@
 -- A loop that counts up, beside `tries`.
-use Rattle.std.specs.Prelude.{◌≡◌, ℕ, suc, ◌+◌, ◌-◌, ◌<◌, ◌≤◌, List, [], ◌∷◌, ◌++◌, length, Option, Some, None, Ok, Err}
-use Rattle.std.proofs.Common.{◌∙◌, ap, arith, append-nil}
-use Rattle.evo_combinators.specs.declared.Fault.{Fault}
+use Rattle.std.specs.Prelude.{◌≡◌, ℕ, suc, ◌+◌, ◌-◌, ◌<◌, List, [], ◌∷◌, ◌++◌, length, Some, Ok}
+use Rattle.std.proofs.Common.{◌∙◌, ap, arith}
 use Rattle.evo_combinators.specs.Reader.{Outcome, Reader, and_then, ◌>>=◌, pure, with_front}
 use Rattle.evo_combinators.specs.Attempt.{attempt, further, tries_from, tries}
 use Rattle.evo_combinators.proofs.AtDepth.{front_none, front_more}
@@ -15,20 +14,11 @@ module _ {T B St : Type 0} (q : St → Reader T B) (next : St → B → St) wher
   tries_init s ts = let n : length ts ≡ length ts - 0 = omega arith in ap (λ k. tries_from q next k s ts) n ∙ front_none (tries_from q next (length ts - 0) s ts)
 
   module _ (o : Outcome T (List B)) (e i : ℕ) (found : List B) (s : St) (ts : List T) (is : o ≡ TriesAfter (e - i) found s ts) where
-    pub tries_end : e ≤ i → o ≡ Ok (found, ts)
-    tries_end done = let n : e - i ≡ 0 = omega arith in is ∙ ap (λ k. TriesAfter k found s ts) n ∙ ap (λ x. Ok (x, ts)) (append-nil found)
-
     abbrev Later : B → Reader T (List B)
     Later b = tries_from q next (e - (i + 1)) (next s b) >>= (λ bs. pure (b ∷ bs))
 
     opened : i < e → o ≡ with_front found (and_then (attempt (q s) ts) (further Later))
     opened below = let n : e - i ≡ suc (e - (i + 1)) = omega arith in is ∙ ap (λ k. TriesAfter k found s ts) n
-
-    pub tries_none : i < e → (rest : List T) → attempt (q s) ts ≡ Ok (None, rest) → o ≡ Ok (found, rest)
-    tries_none below rest none = opened below ∙ ap (λ x. with_front found (and_then x (further Later))) none ∙ ap (λ x. Ok (x, rest)) (append-nil found)
-
-    pub tries_err : i < e → (d : Fault) → attempt (q s) ts ≡ Err d → o ≡ Err d
-    tries_err below d bad = opened below ∙ ap (λ x. with_front found (and_then x (further Later))) bad
 
     pub tries_more : i < e → (b : B) (rest : List T) → attempt (q s) ts ≡ Ok (Some b, rest) → o ≡ TriesAfter (e - (i + 1)) (found ++ b ∷ []) (next s b) rest
     tries_more below b rest good = opened below

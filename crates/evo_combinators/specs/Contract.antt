@@ -1,6 +1,6 @@
 -- What a rule says of tokens that are read, refused or nested too deeply: where each of these is, in the rule's own terms.
 -- S is a rule by how much nesting it allows, d how much may open, and `opening` the tokens that open one.
-use Rattle.std.specs.Prelude.{◌≡◌, ℕ, suc, ◌+◌, ◌≤◌, ◌<◌, Bool, true, List, length, drop, slice_range, Option, Some, ◌⊎◌}
+use Rattle.std.specs.Prelude.{◌≡◌, ℕ, suc, ◌+◌, ◌≤◌, ◌<◌, Bool, true, List, length, drop, slice_range, Some, ◌⊎◌}
 use Rattle.evo_combinators.specs.Rule.{IsViablePrefix}
 use Rattle.evo_combinators.specs.Laws.{first, NoneGoes}
 

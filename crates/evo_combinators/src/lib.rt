@@ -1,8 +1,9 @@
 //! Rules of a grammar as relations, readers of tokens as functions, and the laws that tie them.
 //!
-//! The rules (`specs/Rule`) and the readers (`specs/Reader`, `specs/Guard`) are built from the same few
-//! parts. `Right` of `specs/Laws` says that a reader reads a rule, and `proofs/` has it for each part
-//! once. A grammar is then one line a production on either side, and so is its proof.
+//! The rules (`specs/Rule`) and the readers (`specs/Reader`, `specs/Guard`, `specs/Attempt`) are built from the same few
+//! parts. `ReadsRule` of `specs/Laws` says that a reader reads a rule, and `proofs/` has it for each part once, so a
+//! production is one line of a grammar, one of a reader and one of a proof. What a fault is in a grammar's own terms
+//! stands in `specs/Contract`. This crate stands on std alone; `evo_tree` has the grammar, and the readers stand above.
 #![tactic(auto)]
 
 use std::alloc::{AllocError, AllocFailed};

@@ -7,7 +7,7 @@ use Rattle.evo_combinators.specs.declared.ReadError.{ReadError}
 use Rattle.evo_combinators.specs.declared.ReadError.TheVariants as errors
 use Rattle.evo_combinators.specs.Reader.{Outcome, Reader, Fails}
 use Rattle.evo_combinators.proofs.Says as says
-use Rattle.evo_tree.specs.declared.declaration.Release.{Release}
+use Rattle.evo_base.specs.declared.place.Release.{Release}
 use Rattle.evo_tree.specs.declared.name.Identifier.{Identifier}
 use Rattle.evo_tree.specs.declared.module.Form.{Form}
 use Rattle.evo_tree.specs.declared.module.Item.{Item}

@@ -1,5 +1,5 @@
 -- Parts that are gathered one after the other.
-use Rattle.std.proofs.Common.{◌≡◌, ℕ, ◌-◌, List, [], ◌∷◌, ◌++◌, length, sym, ◌∙◌, ap, arith, append_assoc, append-nil}
+use Rattle.std.proofs.Common.{◌≡◌, ◌-◌, List, [], ◌∷◌, ◌++◌, length, sym, ◌∙◌, ap, arith, append_assoc, append-nil}
 use Rattle.evo_combinators.specs.Reader.{Reader, with_front}
 use Rattle.evo_combinators.specs.Attempt.{tries_from, tries}
 use Rattle.evo_combinators.proofs.TriesTurns.{TriesAfter}

@@ -3,22 +3,16 @@ use Rattle.std.proofs.Common.{◌≡◌, ℕ, List, Option, Some, None, refl, sy
 use Rattle.evo_base.specs.declared.token.Token.{Token}
 use Rattle.evo_base.specs.declared.place.Place.{Place}
 use Rattle.evo_base.specs.declared.fault_kind.FaultKind.{FaultKind}
-use Rattle.evo_lex.specs.Tokenization as cut
-use Rattle.evo_lex.specs.Tokenization.{Tokenization}
 use Rattle.evo_lex.proofs.Cuts as cuts
 use Rattle.evo_combinators.specs.Contract.{OneOutcome}
-use Rattle.evo_combinators.specs.Reader.{Reader}
 use Rattle.evo_combinators.proofs.Answers.{outcomes}
-use Rattle.evo_tree.specs.declared.name.Identifier.{Identifier}
-use Rattle.evo_tree.specs.declared.declaration.Release.{Release}
+use Rattle.evo_base.specs.declared.place.Release.{Release}
 use Rattle.evo_tree.specs.declared.module.Form.{Form}
 use Rattle.evo_tree.specs.declared.module.Form.TheVariants as form
-use Rattle.evo_tree.specs.declared.module.Item.{Item}
 use Rattle.evo_tree.specs.declared.module.ModuleTree.{ModuleTree}
-use Rattle.evo_tree.specs.declared.module.ModulePart.{ModulePart}
 use Rattle.evo_tree.specs.declared.module.SourceFault.{SourceFault}
 use Rattle.evo_tree.specs.Pieces.{Piece, pieces, opens_nesting}
-use Rattle.evo_tree.specs.Modules.{Spells, IsNamed, nesting, imports_of, items_of}
+use Rattle.evo_tree.specs.Modules.{IsNamed, nesting, imports_of, items_of}
 use Rattle.evo_heading.proofs.Headings.{headed_once}
 use Rattle.evo_parse_expr.specs.Contract.{place_at}
 use Rattle.evo_parse_decl.specs.Closed.{block_at, stmt_at}
@@ -26,7 +20,7 @@ use Rattle.evo_parse_decl.specs.ReadModules.{parts}
 use Rattle.evo_parse_decl.proofs.ModuleParts.{End}
 use Rattle.evo_parse_decl.proofs.Whole.{module_grammar}
 use Rattle.evo_parse.specs.Contract.{PartsIn, IsRefusedIn, IsDeepIn}
-use Rattle.evo_parse.specs.Text.{IsTextFault, lexical, refused, deep, OneModule, NoFault, OneFault}
+use Rattle.evo_parse.specs.Text.{lexical, refused, deep, OneModule, NoFault, OneFault}
 
 one : (f : Form) (ps : List Piece) → OneOutcome opens_nesting (PartsIn f) nesting ps
 one f ps = outcomes End opens_nesting (PartsIn f) (λ d. parts block_at stmt_at f d) (module_grammar f) nesting ps

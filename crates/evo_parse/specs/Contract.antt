@@ -5,7 +5,7 @@ use Rattle.evo_combinators.specs.declared.Fault.{Fault}
 use Rattle.evo_combinators.specs.declared.Fault.TheVariants.{Grammar}
 use Rattle.evo_combinators.specs.Reader.{Outcome}
 use Rattle.evo_combinators.specs.Contract as contract
-use Rattle.evo_tree.specs.declared.declaration.Release.{Release}
+use Rattle.evo_base.specs.declared.place.Release.{Release}
 use Rattle.evo_tree.specs.declared.module.Form.{Form}
 use Rattle.evo_tree.specs.declared.module.Form.TheVariants as form
 use Rattle.evo_tree.specs.declared.module.ModulePart.{ModulePart}

@@ -6,10 +6,10 @@ ghost use Rattle.evo_tree.specs.Modules.{Spells, IsNamed};
 ghost use Rattle.evo_parse.specs.Contract.{IsFault, IsHeaded};
 
 use crate::part::{all_parts, split};
-use evo_base::{Name, Token};
+use evo_base::{Name, Release, Token};
 use evo_heading::heading;
 use evo_parse_expr::{Cursor, ParseFault, fault_of, lexemes};
-use evo_tree::{Form, Module, ModuleTree, Release};
+use evo_tree::{Form, Module, ModuleTree};
 use std::alloc::{AllocError, Global};
 
 /// How much nesting may open.

@@ -15,10 +15,11 @@ ghost use Rattle.evo_parse.specs.Contract.{all_of, is_client as the_client};
 use evo_base::List;
 use evo_combinators::ReadError;
 use evo_parse_decl::{begins_declaration, declaration, starts_below};
-use evo_parse_expr::Cursor;
+use evo_parse_expr::{Cursor, is_refusal};
 use evo_parse_header::mark_if;
-use evo_parse_stmt::{is_refusal, statement};
+use evo_parse_stmt::statement;
 use evo_tree::{Decl, Form, Identifier, Item, ModulePart, PartSpot, Stmt, Terminal};
+use sqlite_items::Boxed;
 use std::alloc::{AllocError, Global};
 
 fn is_interface(form: &Form) -> bool
@@ -42,19 +43,26 @@ fn is_client(form: &Form) -> bool
 fn declared_items(alloc: Global, decls: List<Decl>) -> Result<List<Item>, AllocError>
     ensures { IfOk result (λ items. items ≡ map item.Decl decls) }
 {
-    let mut items = Vec::new(alloc);
+    let mut items = Vec::with_capacity(alloc, decls.as_slice().len())?;
     for decl in decls.into_vec() {
-        items.push(Item::Decl(decl))?;
+        items.push(Item::Decl(Boxed::new(alloc, decl)?))?;
     }
+    Ok(List::from_vec(items))
+}
+
+// This alone, with no room for more: a client may have half a million statements.
+fn alone<T: Drop>(alloc: Global, item: T) -> Result<List<T>, AllocError>
+    ensures { IfOk result (λ items. items ≡ item ∷ []) }
+{
+    let mut items = Vec::with_capacity(alloc, 1)?;
+    items.push(item)?;
     Ok(List::from_vec(items))
 }
 
 fn statement_item(alloc: Global, statement: Stmt) -> Result<List<Item>, AllocError>
     ensures { IfOk result (λ items. items ≡ item.Stmt statement ∷ []) }
 {
-    let mut items = Vec::new(alloc);
-    items.push(Item::Stmt(statement))?;
-    Ok(List::from_vec(items))
+    alone(alloc, Item::Stmt(statement))
 }
 
 // What a declaration makes.
@@ -276,8 +284,8 @@ pub(crate) fn split(
 ) -> Result<(List<Identifier>, List<Item>), AllocError>
     ensures { IfOk result (λ x. (x.0 ≡ grammar.imports_of parts) × (x.1 ≡ grammar.items_of parts)) }
 {
+    let mut items = Vec::with_capacity(alloc, parts.as_slice().len())?;
     let mut imports = Vec::new(alloc);
-    let mut items = Vec::new(alloc);
     for part in parts.into_vec() {
         match part {
             ModulePart::Import(name) => imports.push(name)?,

@@ -1,13 +1,13 @@
 -- Accessors: what the readers of blocks must keep, and the choice between a list of accessors and a block.
-use Rattle.std.proofs.Common.{◌≡◌, ℕ, zero, suc, ◌+◌, ◌-◌, ◌≤◌, Bool, true, false, List, [], ◌∷◌, ◌++◌, length, Option, Some, None, Ok, Err, refl, sym, ◌∙◌, ap, subst, arith, ◌⊎◌, inl, inr, append-nil, eqb-true, length-append}
+use Rattle.std.proofs.Common.{◌≡◌, ℕ, zero, suc, ◌+◌, ◌-◌, ◌≤◌, Bool, true, false, List, [], ◌∷◌, ◌++◌, length, Option, Some, None, Ok, Err, refl, sym, ◌∙◌, ap, subst, arith, ◌⊎◌, inl, inr, eqb-true, length-append}
 use Rattle.std.specs.Prelude.{◌&&◌, ◌||◌, ◌==◌, cond, codes}
-use Rattle.std.specs.Str.{bytes_eq, is_utf8}
+use Rattle.std.specs.Str.{bytes_eq}
 use Rattle.evo_base.specs.declared.place.Place.{Place}
 use Rattle.evo_combinators.specs.declared.Fault.{Fault}
 use Rattle.evo_combinators.specs.declared.Fault.TheVariants.{Grammar, Deep}
 use Rattle.evo_combinators.specs.Rule.{Empty, Fail, TokenThen, Or, Then, SomeOf, IsViablePrefix}
-use Rattle.evo_combinators.specs.Reader.{Outcome, ◌>>=◌, and_then, pure, refuse, alt, one, bar, barred, lead, paired, branch}
-use Rattle.evo_combinators.specs.Guard.{choose, starts, on}
+use Rattle.evo_combinators.specs.Reader.{Outcome, ◌>>=◌, and_then, pure, refuse, one, bar, barred, lead, paired, branch}
+use Rattle.evo_combinators.specs.Guard.{choose, starts}
 use Rattle.evo_combinators.specs.Laws.{Begins, GrowsWithNesting, SameLookahead, ReadsRule, Takes, first, of_first}
 use Rattle.evo_combinators.proofs.Laws.{right_alt_by, right_nothing, right_map, right_same, right_stop, right_ext, split_err, of_map, to_map}
 use Rattle.evo_combinators.proofs.Entered.{refused_within}
@@ -30,9 +30,10 @@ use Rattle.evo_combinators.proofs.Nesting.{nest_refuse, nest_bar, nest_choose, d
 use Rattle.evo_combinators.proofs.NestingTries.{nest_made}
 use Rattle.evo_parse_expr.proofs.Nesting.{May, ReadsInner}
 use Rattle.evo_combinators.proofs.NestingRuns.{nest_ext}
-use Rattle.evo_parse_header.proofs.Sets.{Set, these, but, In, into, none_holds, Ends, EndsOrBrace}
+use Rattle.evo_parse_header.proofs.Sets.{Set, these, but, In, into, none_holds, Ends, EndsOrBrace, the_end}
 use Rattle.evo_parse_header.proofs.Parses.{Chooses, Parses, parses_pure, parses_then, parses_map, parses_led, parses_opens, quiet, opening, parses_alt, chooses_nothing, parses_before}
-use Rattle.evo_parse_header.proofs.Tests.{a_piece, mark_test, word_test, is_number, mark_is, is_marked, when_some}
+use Rattle.evo_parse_expr.proofs.Tests.{mark_is, when_some}
+use Rattle.evo_parse_header.proofs.Tests.{a_piece, mark_test, word_test, number_among, is_marked}
 use Rattle.evo_lex.specs.Front.{when}
 use Rattle.evo_parse_decl.proofs.Unless.{right_unless}
 use Rattle.evo_parse_decl.proofs.Prefixes.{goes_end, goes_shallow, goes_through, goes_under, deep_within}
@@ -91,7 +92,7 @@ a_brace = refl
 
 -- a closing brace is no `get`
 close_get : (v : Piece) → is_close v ≡ true → is_get v ≡ false
-close_get v is = ap (λ (n : ℕ). (n == 0) && bytes_eq v.text (codes "get")) (eqb-true (number_of v.terminal) 69 is)
+close_get v is = ap (λ (n : ℕ). (n == number_of t.Identifier) && bytes_eq v.text (codes "get")) (eqb-true (number_of v.terminal) (number_of t.CloseBrace) is)
 
 open_goes : (v : Piece) → is_open v ≡ true → goes_on_get v ≡ true
 open_goes v is = ap (λ (b : Bool). b || is_terminal t.Semicolon v || is_terminal t.CloseBrace v || (is_terminal t.Identifier v && bytes_eq v.text (codes "set"))) is
@@ -126,12 +127,9 @@ get_word v is = ap (λ (b : Bool). when b v.place) is
 
 word_get : (v : Piece) (p : Place) → word (codes "get") v ≡ Some p → is_get v ≡ true
 unfolding word
-word_get v p e = when_some (is_get v) v.place p e
+word_get v p e = (when_some (is_get v) v.place p e).0
 
 module _ (B : ℕ → Bool → Rule Block) (b : ℕ → Bool → Reader Block) (blocks : Blocks B b) where
-  abbrev B_false : ℕ → Rule Block
-  B_false d = B d false
-
   abbrev Plain : ℕ → Rule Accessors
   Plain d = Then (B d false) (λ x. Empty (accessors.Block x))
 
@@ -144,28 +142,28 @@ module _ (B : ℕ → Bool → Rule Block) (b : ℕ → Bool → Reader Block) (
   unfolding a_piece
   some_block d i = let (x, s) = blocks.empty d i (a_piece t.OpenBrace []) (a_piece t.CloseBrace []) refl refl in (_, x, s)
 
-  pub parses_block : (i : Bool) → Parses (these (68 ∷ [])) (but []) (λ d. B d i) (λ d. b d i)
+  pub parses_block : (i : Bool) → Parses (these (number_of t.OpenBrace ∷ [])) (but []) (λ d. B d i) (λ d. b d i)
   parses_block i = record {
     chooses = record {
       right = λ d n. blocks.right d i n;
       deeper = λ d. blocks.deeper d i;
       front = λ d us rest x s stop. let (u, vs, v, cut, is, is') = blocks.braced d i us x s in
-          subst (λ y. In (these (68 ∷ [])) (first (y ++ rest))) (sym cut) (is_number t.OpenBrace u is);
+          subst (λ y. In (these (number_of t.OpenBrace ∷ [])) (first (y ++ rest))) (sym cut) (number_among t.OpenBrace u is);
       nest = λ d n. blocks.nest d i n;
     };
     some = λ d. some_block d i;
   }
 
-  parses_setter : Parses (these (0 ∷ 69 ∷ 100 ∷ [])) (these (69 ∷ 100 ∷ [])) (λ d. grammar.Setter B (suc d)) (λ d. read.setter b (suc d))
+  parses_setter : Parses (these (number_of t.Identifier ∷ number_of t.CloseBrace ∷ the_end ∷ [])) (these (number_of t.CloseBrace ∷ the_end ∷ [])) (λ d. grammar.Setter B (suc d)) (λ d. read.setter b (suc d))
   unfolding read.setter
   parses_setter = parses_alt refl refl refl refl (word_test (codes "set")) (λ _. parses_before refl refl (parses_map (λ x. Some x) (parses_block false))) (parses_pure refl None).chooses
 
-  parses_blocks_of : Parses (these (68 ∷ [])) Anything
+  parses_blocks_of : Parses (these (number_of t.OpenBrace ∷ [])) Anything
       (λ d. Then (B d false) (λ g. Then (grammar.Setter B (suc d)) (λ x. TokenThen (mark t.CloseBrace) (λ _. Empty (accessors.Blocks g x)))))
       (λ d. b d false >>= (λ g. read.setter b (suc d) >>= (λ x. one (mark t.CloseBrace) >>= (λ _. pure (accessors.Blocks g x)))))
-  parses_blocks_of = parses_then refl (parses_block false) (λ g. parses_then refl parses_setter (λ x. parses_led {F = these (69 ∷ [])} refl refl refl (mark_test t.CloseBrace) (λ _. parses_pure refl (accessors.Blocks g x))))
+  parses_blocks_of = parses_then refl (parses_block false) (λ g. parses_then refl parses_setter (λ x. parses_led {F = these (number_of t.CloseBrace ∷ [])} refl refl refl (mark_test t.CloseBrace) (λ _. parses_pure refl (accessors.Blocks g x))))
 
-  parses_rest : Parses (these (0 ∷ [])) Anything (λ d. grammar.BlocksTail B (suc d)) (λ d. read.rest_of_blocks b (suc d))
+  parses_rest : Parses (these (number_of t.Identifier ∷ [])) Anything (λ d. grammar.BlocksTail B (suc d)) (λ d. read.rest_of_blocks b (suc d))
   unfolding read.rest_of_blocks
   parses_rest = parses_led refl refl refl (word_test (codes "get")) (λ _. parses_blocks_of)
 
@@ -505,11 +503,11 @@ module _ (B : ℕ → Bool → Rule Block) (b : ℕ → Bool → Reader Block) (
   -- ---- which tokens open a nesting
 
   brace_opens : (u : Piece) (p : Place) → mark t.OpenBrace u ≡ Some p → opens_nesting u ≡ true
-  brace_opens = opening (68 ∷ []) (mark t.OpenBrace) refl (mark_test t.OpenBrace).numbers
+  brace_opens = opening (number_of t.OpenBrace ∷ []) (mark t.OpenBrace) refl (mark_test t.OpenBrace).numbers
 
   opening_get : (v : Piece) → opens_nesting v ≡ true → is_get v ≡ false
   opening_get v opens = elim (which (is_get v)) [
-    | inl is ↦ absurd (quiet (0 ∷ []) (word (codes "get")) refl (word_test (codes "get")).numbers v v.place (get_word v is) opens)
+    | inl is ↦ absurd (quiet (number_of t.Identifier ∷ []) (word (codes "get")) refl (word_test (codes "get")).numbers v v.place (get_word v is) opens)
     | inr isnt ↦ isnt
   ]
 
@@ -555,23 +553,23 @@ module _ (B : ℕ → Bool → Rule Block) (b : ℕ → Bool → Reader Block) (
     deep = deep_choose opens_nesting n begins_accessors (listed d) (plain d) (deep_opens_listed d n) (nest_plain d n).deep;
   }
 
-  braced_front : (d : ℕ) (us rest : List Piece) (x : Accessors) → Braced d us x → In Anything (first rest) → In (these (68 ∷ [])) (first (us ++ rest))
+  braced_front : (d : ℕ) (us rest : List Piece) (x : Accessors) → Braced d us x → In Anything (first rest) → In (these (number_of t.OpenBrace ∷ [])) (first (us ++ rest))
   braced_front d us rest x (inl listed) stop = go d us x listed
     where
-      go : (d : ℕ) (us : List Piece) (x : Accessors) → Listed d us x → In (these (68 ∷ [])) (first (us ++ rest))
+      go : (d : ℕ) (us : List Piece) (x : Accessors) → Listed d us x → In (these (number_of t.OpenBrace ∷ [])) (first (us ++ rest))
       go zero us x (inl none) = absurd none
-      go (suc d) us x (inl (u, p, vs, cut, takes, s)) = subst (λ y. In (these (68 ∷ [])) (first (y ++ rest))) (sym cut) (is_number t.OpenBrace u (mark_is t.OpenBrace u p takes))
+      go (suc d) us x (inl (u, p, vs, cut, takes, s)) = subst (λ y. In (these (number_of t.OpenBrace ∷ [])) (first (y ++ rest))) (sym cut) (number_among t.OpenBrace u (mark_is t.OpenBrace u p takes))
       go d us x (inr none) = absurd none
   braced_front d us rest x (inr (isnt, s)) stop =
       let (y, s', e) = of_map (B d false) (λ y. accessors.Block y) us x s in (parses_block false).chooses.front d us rest y s' stop
 
   -- "{" "get" ["set"] "}"
-  parses_rest_of_gets : Parses (these (0 ∷ [])) Anything (λ _. grammar.GetsTail) (λ _. read.rest_of_gets)
+  parses_rest_of_gets : Parses (these (number_of t.Identifier ∷ [])) Anything (λ _. grammar.GetsTail) (λ _. read.rest_of_gets)
   unfolding read.rest_of_gets
-  parses_rest_of_gets = parses_led refl refl refl (word_test (codes "get")) (λ _. parses_alt {F = Anything} {H = these (69 ∷ [])} refl refl refl refl (word_test (codes "set"))
+  parses_rest_of_gets = parses_led refl refl refl (word_test (codes "get")) (λ _. parses_alt {F = Anything} {H = these (number_of t.CloseBrace ∷ [])} refl refl refl refl (word_test (codes "set"))
       (λ _. parses_led {F = Anything} refl refl refl (mark_test t.CloseBrace) (λ _. parses_pure refl accessors.GetSet)) (parses_led refl refl refl (mark_test t.CloseBrace) (λ _. parses_pure refl accessors.Get)).chooses)
 
-  pub parses_braces : (bodies : Bool) → Parses (these (68 ∷ [])) Anything (λ d. grammar.Braces B d bodies) (λ d. read.braces b d bodies)
+  pub parses_braces : (bodies : Bool) → Parses (these (number_of t.OpenBrace ∷ [])) Anything (λ d. grammar.Braces B d bodies) (λ d. read.braces b d bodies)
   unfolding read.braces
   parses_braces true = record {
     chooses = record { right = right_braced; deeper = deeper_braced; front = braced_front; nest = nest_braced };
@@ -597,9 +595,9 @@ module _ (B : ℕ → Bool → Rule Block) (b : ℕ → Bool → Reader Block) (
   begins_braces : (bodies : Bool) (d : ℕ) → Begins (λ u. is_open u ≡ true) (grammar.Braces B d bodies)
   begins_braces bodies d us x s = go us refl ((parses_braces bodies).chooses.front d us [] x s refl)
     where
-      go : (vs : List Piece) → us ≡ vs → In (these (68 ∷ [])) (first (us ++ [])) → (u : Piece) × (ws : List Piece) × (us ≡ u ∷ ws) × (is_open u ≡ true)
-      go [] e h = let bad = subst (λ y. In (these (68 ∷ [])) (first (y ++ []))) e h in absurd (cc)
-      go (u ∷ ws) e h = (u, ws, e, just (is_open u) (subst (λ y. In (these (68 ∷ [])) (first (y ++ []))) e h))
+      go : (vs : List Piece) → us ≡ vs → In (these (number_of t.OpenBrace ∷ [])) (first (us ++ [])) → (u : Piece) × (ws : List Piece) × (us ≡ u ∷ ws) × (is_open u ≡ true)
+      go [] e h = let bad = subst (λ y. In (these (number_of t.OpenBrace ∷ [])) (first (y ++ []))) e h in absurd (cc)
+      go (u ∷ ws) e h = (u, ws, e, just (is_open u) (subst (λ y. In (these (number_of t.OpenBrace ∷ [])) (first (y ++ []))) e h))
 
   parses_stored : (may : Bool) → Chooses Ends Ends (λ _. grammar.Stored may) (λ _. read.stored may)
   unfolding read.stored
@@ -611,7 +609,7 @@ module _ (B : ℕ → Bool → Rule Block) (b : ℕ → Bool → Reader Block) (
   ends_open (Some u) h = go (is_open u) refl
     where
       go : (c : Bool) → is_open u ≡ c → c ≡ false
-      go true is = absurd (none_holds Ends (number_of u.terminal) (68 ∷ []) refl (is_number t.OpenBrace u is) h)
+      go true is = absurd (none_holds Ends (number_of u.terminal) (number_of t.OpenBrace ∷ []) refl (number_among t.OpenBrace u is) h)
       go false is = refl
 
   stored_apart : (may : Bool) (us rest : List Piece) (x : Accessors) → grammar.Stored may us x → In Ends (first rest) → starts is_open (us ++ rest) ≡ false
@@ -627,7 +625,7 @@ module _ (B : ℕ → Bool → Rule Block) (b : ℕ → Bool → Reader Block) (
           ((parses_stored may).right d n) (begins_braces bodies d) (λ u us fits is bad. takes_braces bodies d u is us bad) (stored_apart may);
       deeper = λ d. deeper_choose (starts is_open) (read.braces b d bodies) (read.braces b (suc d) bodies) (read.stored may) (read.stored may) ((parses_braces bodies).chooses.deeper d) (same_refl (read.stored may));
       front = λ d us rest x s stop. elim s [
-        | inl s' ↦ into (these (68 ∷ [])) EndsOrBrace refl (first (us ++ rest)) ((parses_braces bodies).chooses.front d us rest x s' refl)
+        | inl s' ↦ into (these (number_of t.OpenBrace ∷ [])) EndsOrBrace refl (first (us ++ rest)) ((parses_braces bodies).chooses.front d us rest x s' refl)
         | inr s' ↦ into Ends EndsOrBrace refl (first (us ++ rest)) ((parses_stored may).front d us rest x s' stop)
       ];
       nest = λ d n. nest_choose (May d) opens_nesting n (starts is_open) (grammar.Braces B d bodies) (grammar.Stored may) (read.braces b d bodies) (read.stored may)

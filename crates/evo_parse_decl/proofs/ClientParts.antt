@@ -1,21 +1,18 @@
 -- The reader of clients reads its rule.
-use Rattle.std.proofs.Common.{◌≡◌, ℕ, zero, suc, ◌-◌, ◌<◌, ◌≤◌, Bool, true, false, not, List, [], ◌∷◌, ◌++◌, length, Option, Some, None, Ok, Err, refl, sym, ◌∙◌, ap, subst, arith, ◌⊎◌, inl, inr, length-append, ltb-true}
-use Rattle.std.specs.Prelude.{map, cond, nat_lt, ◌&&◌, ◌||◌}
+use Rattle.std.proofs.Common.{◌≡◌, ℕ, suc, ◌-◌, Bool, true, false, not, List, [], ◌∷◌, ◌++◌, Some, refl, sym, ◌∙◌, ap, subst, ◌⊎◌, inl, inr, ltb-true}
+use Rattle.std.specs.Prelude.{map, nat_lt, ◌&&◌}
 use Rattle.std.specs.Option.{is_some}
 use Rattle.evo_base.specs.declared.place.Place.{Place}
 use Rattle.evo_combinators.specs.Rule.{Empty, Fail, TokenThen, Or, Then, SomeOf}
 use Rattle.evo_combinators.specs.Reader.{◌>>=◌, pure, refuse, alt, one}
-use Rattle.evo_combinators.specs.Guard.{On, Run, on, starts, ahead}
-use Rattle.evo_combinators.specs.Attempt.{tries}
-use Rattle.evo_combinators.specs.Laws.{Begins, GrowsWithNesting, ReadsRule, Takes, Skips, first, GrammarOf}
+use Rattle.evo_combinators.specs.Guard.{on, starts, ahead}
+use Rattle.evo_combinators.specs.Laws.{Begins, GrowsWithNesting, ReadsRule, Takes, first, GrammarOf}
 use Rattle.evo_combinators.proofs.Laws.{begins_then, of_map, right_stop, right_map, right_pure, right_alt_by, right_ext, right_same, begins_skips, to_map}
 use Rattle.evo_combinators.proofs.GrowsWithNesting.{deeper_then, deeper_alt, same_refl}
 use Rattle.evo_combinators.proofs.GuardDeeper.{deeper_choose}
 use Rattle.evo_combinators.proofs.GuardLaws.{right_on, starts_is, right_ahead, which}
 use Rattle.evo_combinators.proofs.Entered.{takes_then}
-use Rattle.evo_tree.specs.declared.statement.Block.{Block}
 use Rattle.evo_tree.specs.declared.statement.Stmt.{Stmt}
-use Rattle.evo_tree.specs.declared.module.Form.{Form}
 use Rattle.evo_tree.specs.declared.module.Form.TheVariants as form
 use Rattle.evo_tree.specs.declared.module.Item.{Item}
 use Rattle.evo_tree.specs.declared.module.Item.TheVariants as item
@@ -41,10 +38,10 @@ use Rattle.evo_parse_expr.proofs.Tests.{quiet_mark}
 use Rattle.evo_parse_expr.proofs.Nesting.{May, ReadsInner}
 use Rattle.evo_combinators.proofs.NestingRuns.{nest_ext, nest_filter}
 use Rattle.evo_parse_stmt.specs.Read.{stmt}
-use Rattle.evo_parse_stmt.proofs.Follows.{After, AfterStmt, Starts, leading as statement_words, Fresh, fresh_apart, expression_codes, after_at, next_after, later_no_dot}
+use Rattle.evo_parse_stmt.proofs.Follows.{After, AfterStmt, Starts, leading as statement_words, fresh_apart, expression_codes, after_at, next_after, later_no_dot}
 use Rattle.evo_parse_expr.proofs.Tests.{rank_at, opens_expr}
-use Rattle.evo_parse_stmt.proofs.Tests.{apart}
-use Rattle.evo_parse_stmt.proofs.Tests as their
+use Rattle.evo_parse_expr.proofs.Among.{among, apart, disjoint}
+use Rattle.evo_parse_expr.proofs.Tests as tests
 use Rattle.evo_parse_stmt.proofs.Tests.{assigning_codes}
 use Rattle.evo_combinators.proofs.FilterLaws.{right_filter}
 use Rattle.evo_combinators.proofs.Attempts.{right_tries, deeper_tries}
@@ -53,36 +50,37 @@ use Rattle.evo_parse_decl.specs.Closed.{BlockAt, block_at}
 use Rattle.evo_parse_header.specs.Read.{is_modifier}
 use Rattle.evo_parse_decl.specs.Read.{begins_top, next}
 use Rattle.evo_parse_decl.specs.ReadModules as read
-use Rattle.evo_parse_header.proofs.Sets.{these, but, In, among, into, none_in, none_holds, among_cons}
+use Rattle.evo_parse_header.proofs.Sets.{these, but, In, into, none_in, none_holds, among_cons}
 use Rattle.evo_parse_decl.proofs.ModuleParts.{parses_declared, End}
 use Rattle.evo_parse_decl.proofs.Concrete.{blocks}
-use Rattle.evo_parse_header.proofs.Tests.{nominal_test, identifier_test, is_number, mark_is, modifier_numbers}
+use Rattle.evo_parse_expr.proofs.Tests.{mark_is}
+use Rattle.evo_parse_header.proofs.Tests.{nominal_test, identifier_test, number_among, modifier_numbers}
 use Rattle.evo_parse_header.proofs.Productions.{Words, is_modifier_word}
 use Rattle.evo_parse_decl.proofs.Members.{or_rest}
 use Rattle.evo_parse_decl.proofs.Top.{parses_top_declaration, begins_top_at, takes_top_at, is_nominal}
 
 -- what a declaration at the top level begins with
 abbrev Tops : List ℕ
-Tops = 74 ∷ 10 ∷ 9 ∷ 5 ∷ 6 ∷ 7 ∷ 8 ∷ Words
+Tops = number_of t.At ∷ number_of t.Func ∷ number_of t.Extension ∷ number_of t.Struct ∷ number_of t.Enum ∷ number_of t.Class ∷ number_of t.Protocol ∷ Words
 
-top_number : (u : Piece) → begins_top u ≡ true → among (number_of u.terminal) Tops ≡ true
+top_number : (u : Piece) → begins_top u ≡ true → among Tops (number_of u.terminal) ≡ true
 unfolding begins_top
 top_number u is = elim (which (is_terminal t.At u)) [
-  | inl here ↦ into (these (74 ∷ [])) (these Tops) refl (Some u) (is_number t.At u here)
+  | inl here ↦ into (these (number_of t.At ∷ [])) (these Tops) refl (Some u) (number_among t.At u here)
   | inr no_at ↦ elim (which (is_modifier [] u)) [
     | inl here ↦ let (m, takes) = is_modifier_word [] u here in into (these Words) (these Tops) refl (Some u) (modifier_numbers [] u m takes)
     | inr no_word ↦ elim (which (is_terminal t.Func u)) [
-      | inl here ↦ into (these (10 ∷ [])) (these Tops) refl (Some u) (is_number t.Func u here)
+      | inl here ↦ into (these (number_of t.Func ∷ [])) (these Tops) refl (Some u) (number_among t.Func u here)
       | inr no_func ↦ elim (which (is_some (nominal_word u))) [
-        | inl here ↦ let (w, takes) = is_nominal u here in into (these (5 ∷ 6 ∷ 7 ∷ 8 ∷ [])) (these Tops) refl (Some u) (nominal_test.numbers u w takes)
-        | inr no_type ↦ into (these (9 ∷ [])) (these Tops) refl (Some u) (or_rest (is_some (nominal_word u)) _ no_type (or_rest (is_terminal t.Func u) _ no_func (or_rest (is_modifier [] u) _ no_word (or_rest (is_terminal t.At u) _ no_at is))))
+        | inl here ↦ let (w, takes) = is_nominal u here in into (these (number_of t.Struct ∷ number_of t.Enum ∷ number_of t.Class ∷ number_of t.Protocol ∷ [])) (these Tops) refl (Some u) (nominal_test.numbers u w takes)
+        | inr no_type ↦ into (these (number_of t.Extension ∷ [])) (these Tops) refl (Some u) (or_rest (is_some (nominal_word u)) _ no_type (or_rest (is_terminal t.Func u) _ no_func (or_rest (is_modifier [] u) _ no_word (or_rest (is_terminal t.At u) _ no_at is))))
       ]
     ]
   ]
 ]
 
 -- no statement begins so
-no_statement : (u : Piece) → Starts u → among (number_of u.terminal) Tops ≡ true → ⊥
+no_statement : (u : Piece) → Starts u → among Tops (number_of u.terminal) ≡ true → ⊥
 no_statement u (inl lead) is = apart Tops statement_words (number_of u.terminal) refl is lead
 no_statement u (inr fresh) is = fresh_apart Tops refl u fresh is
 
@@ -173,7 +171,7 @@ abbrev PartFirst : Piece → Type 0
 PartFirst u = (is_terminal t.Import u ≡ true) ⊎ ItemFirst u
 
 -- no item begins with such a token
-item_not : (n : ℕ) → none_in (these Tops) (n ∷ []) ≡ true → their.disjoint (n ∷ []) statement_words ≡ true → their.disjoint (n ∷ []) expression_codes ≡ true → (u : Piece) → ItemFirst u → among (number_of u.terminal) (n ∷ []) ≡ true → ⊥
+item_not : (n : ℕ) → none_in (these Tops) (n ∷ []) ≡ true → disjoint (n ∷ []) statement_words ≡ true → disjoint (n ∷ []) expression_codes ≡ true → (u : Piece) → ItemFirst u → among (n ∷ []) (number_of u.terminal) ≡ true → ⊥
 item_not n far no_lead no_expr u (inl top) is = none_holds (these Tops) (number_of u.terminal) (n ∷ []) far is (top_number u top)
 item_not n far no_lead no_expr u (inr stands) is = starts_apart stands.starts
   where
@@ -205,14 +203,14 @@ right_itemed d n = right_map n AfterStmt (grammar.Items BlockAt S_at form.Client
 begins_itemed : (d : ℕ) → Begins ItemFirst (Y d)
 begins_itemed d = begins_then ItemFirst (grammar.Items BlockAt S_at form.Client d) (λ is. Empty (items is)) (begins_items d)
 
-parses_imported : (p : Place) → Parses (these (0 ∷ [])) (but []) (λ _. Imported p) (λ _. imported p)
+parses_imported : (p : Place) → Parses (these (number_of t.Identifier ∷ [])) (but []) (λ _. Imported p) (λ _. imported p)
 parses_imported p = parses_led refl refl refl identifier_test (λ n. parses_pure refl (imports n))
 
 right_part : (d n : ℕ) (may : Bool) → ReadsRule n AfterStmt (P_of d may) (P_of (suc d) may) (part d may)
 right_part d n true = right_alt_by n AfterStmt (mark t.Import) Imported Imported (Y d) (Y (suc d)) imported (itemed d)
     (λ p. right_stop (n - 1) (In (but [])) AfterStmt (Imported p) (Imported p) (imported p) (λ x h. refl) tt ((parses_imported p).chooses.right d (n - 1))) (right_itemed d n)
     (λ p. (parses_imported p).some d)
-    (λ us rest x r stop. begins_skips ItemFirst (mark t.Import) (Y d) (begins_itemed d) (λ u a h takes. item_not 4 refl refl refl u h (is_number t.Import u (mark_is t.Import u a takes))) us rest x r)
+    (λ us rest x r stop. begins_skips ItemFirst (mark t.Import) (Y d) (begins_itemed d) (λ u a h takes. item_not (number_of t.Import) refl refl refl u h (number_among t.Import u (mark_is t.Import u a takes))) us rest x r)
 right_part d n false = right_ext n AfterStmt (P_of d false) (P_of (suc d) false) (itemed d) (part d false) (λ ts all. skipped (mark t.Import) imported (itemed d) ts)
     (right_same n AfterStmt (Y d) (Y (suc d)) (P_of d false) (P_of (suc d) false) (itemed d) (λ us x r. inr r) (never (mark t.Import) Imported (Y d)) (λ us x r. inr r) (right_itemed d n))
 
@@ -234,8 +232,8 @@ some_part : (d : ℕ) (may : Bool) → SomeOf (P_of (suc d) may)
 some_part d may = let (us, x, r) = (parses_declared BlockAt block_at blocks S_at s_at form.Client).some d in (us, items x, inr (to_map (grammar.Items BlockAt S_at form.Client (suc d)) (λ is. items is) us x (inl r)))
 
 part_semicolon : (u : Piece) (p : Place) → PartFirst u → mark t.Semicolon u ≡ Some p → ⊥
-part_semicolon u p (inl is) takes = none_holds (these (4 ∷ [])) (number_of u.terminal) (71 ∷ []) refl (is_number t.Semicolon u (mark_is t.Semicolon u p takes)) (is_number t.Import u is)
-part_semicolon u p (inr h) takes = item_not 71 refl refl refl u h (is_number t.Semicolon u (mark_is t.Semicolon u p takes))
+part_semicolon u p (inl is) takes = none_holds (these (number_of t.Import ∷ [])) (number_of u.terminal) (number_of t.Semicolon ∷ []) refl (number_among t.Semicolon u (mark_is t.Semicolon u p takes)) (number_among t.Import u is)
+part_semicolon u p (inr h) takes = item_not (number_of t.Semicolon) refl refl refl u h (number_among t.Semicolon u (mark_is t.Semicolon u p takes))
 
 no_nothing : (R : Rule ModulePart) (us : List Piece) (x : ModulePart) → Or R Fail us x → R us x
 no_nothing R us x (inl r) = r
@@ -272,7 +270,7 @@ deeper_next d may = deeper_alt (mark t.Semicolon) (λ _. part d may) (λ _. part
 
 -- nothing before goes on with such a terminal
 calm : Terminal → Bool
-calm k = nat_lt 6 (rank_at k true false) && not (their.among (number_of t.Else ∷ assigning_codes) (number_of k)) && not (opens_expr k)
+calm k = nat_lt 6 (rank_at k true false) && not (among (number_of t.Else ∷ assigning_codes) (number_of k)) && not (opens_expr k)
 
 all_calm : List Terminal → Bool
 all_calm [] = true
@@ -291,11 +289,11 @@ two_true : (a b : Bool) → (a && b) ≡ true → (a ≡ true) × (b ≡ true)
 two_true true b e = (refl, e)
 two_true false b e = absurd (cc)
 
-after_of : (ks : List Terminal) (u : Piece) → all_calm ks ≡ true → among (number_of u.terminal) (map number_of ks) ≡ true → After u
+after_of : (ks : List Terminal) (u : Piece) → all_calm ks ≡ true → among (map number_of ks) (number_of u.terminal) ≡ true → After u
 unfolding all_calm calm
 after_of [] u calm' is = absurd (cc)
 after_of (k ∷ ks) u calm' is = among_cons (After u) (number_of u.terminal) (number_of k) (map number_of ks)
-    (λ same. let (quiet, other, shut) = three (nat_lt 6 (rank_at k true false)) _ _ (two_true (nat_lt 6 (rank_at k true false) && not (their.among (number_of t.Else ∷ assigning_codes) (number_of k)) && not (opens_expr k)) (all_calm ks) calm').0 in
+    (λ same. let (quiet, other, shut) = three (nat_lt 6 (rank_at k true false)) _ _ (two_true (nat_lt 6 (rank_at k true false) && not (among (number_of t.Else ∷ assigning_codes) (number_of k)) && not (opens_expr k)) (all_calm ks) calm').0 in
     after_at k u same (ltb-true 6 (rank_at k true false) quiet) (not_true _ other) (not_true _ shut))
     (λ later. after_of ks u (two_true _ (all_calm ks) calm').1 later) is
 
@@ -303,7 +301,7 @@ abbrev Keywords : List Terminal
 Keywords = t.Import ∷ t.At ∷ t.Func ∷ t.Extension ∷ t.Struct ∷ t.Enum ∷ t.Class ∷ t.Protocol
     ∷ t.Open ∷ t.Public ∷ t.Internal ∷ t.Private ∷ t.Final ∷ t.Static ∷ t.Mutating ∷ t.Override ∷ []
 
-after_keyword : (u : Piece) → among (number_of u.terminal) (4 ∷ Tops) ≡ true → After u
+after_keyword : (u : Piece) → among (number_of t.Import ∷ Tops) (number_of u.terminal) ≡ true → After u
 unfolding all_calm calm
 after_keyword u is = after_of Keywords u refl is
 
@@ -312,9 +310,9 @@ abbrev NextFirst : Piece → Type 0
 NextFirst u = (is_terminal t.Semicolon u ≡ true) ⊎ ((u.below ≡ true) × PartFirst u)
 
 after_part_first : (u : Piece) → NextFirst u → AfterStmt (Some u)
-after_part_first u (inl is) = next_after u (inl (their.is_terminal_number t.Semicolon u is))
-after_part_first u (inr (below, inl is)) = after_keyword u (into (these (4 ∷ [])) (these (4 ∷ Tops)) refl (Some u) (is_number t.Import u is))
-after_part_first u (inr (below, inr (inl top))) = after_keyword u (into (these Tops) (these (4 ∷ Tops)) refl (Some u) (top_number u top))
+after_part_first u (inl is) = next_after u (inl (tests.is_number t.Semicolon u is))
+after_part_first u (inr (below, inl is)) = after_keyword u (into (these (number_of t.Import ∷ [])) (these (number_of t.Import ∷ Tops)) refl (Some u) (number_among t.Import u is))
+after_part_first u (inr (below, inr (inl top))) = after_keyword u (into (these Tops) (these (number_of t.Import ∷ Tops)) refl (Some u) (top_number u top))
 after_part_first u (inr (below, inr (inr stands))) = next_after u (inr (below, later_no_dot u stands.later, stands.starts))
 
 begins_next : (d : ℕ) (may : Bool) → Begins NextFirst (Next (P_of d may))

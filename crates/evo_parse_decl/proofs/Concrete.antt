@@ -1,12 +1,6 @@
 -- The reader of blocks keeps what that of declarations asks for.
-use Rattle.std.proofs.Common.{◌≡◌, ℕ, zero, suc, Bool, true, false, List, [], ◌∷◌, ◌++◌, Option, Some, None, refl, sym, ◌∙◌, ap, subst, ◌⊎◌, inl, inr, append-nil}
-use Rattle.std.specs.Prelude.{◌&&◌, codes}
-use Rattle.std.specs.Str.{bytes_eq, is_utf8}
-use Rattle.std.proofs.lemmas.Slice.Eq.{bytes_eq-Decides}
-use Rattle.std.proofs.lemmas.Str.{IsUtf8-from_ascii, is_utf8-from_IsUtf8}
-use Rattle.evo_combinators.specs.Rule.{Empty, Fail, TokenThen, Or, Then, IsViablePrefix}
-use Rattle.evo_combinators.specs.Reader.{bar, refuse}
-use Rattle.evo_combinators.specs.Laws.{GrammarOf}
+use Rattle.std.proofs.Common.{◌≡◌, ℕ, zero, suc, Bool, true, false, List, [], ◌∷◌, ◌++◌, refl, ◌∙◌, ap, inl, inr}
+use Rattle.evo_combinators.specs.Rule.{TokenThen, IsViablePrefix}
 use Rattle.evo_combinators.proofs.Laws.{right_stop}
 use Rattle.evo_tree.specs.declared.expression.Expr.{Expr}
 use Rattle.evo_tree.specs.declared.statement.Block.{Block}
@@ -14,16 +8,16 @@ use Rattle.evo_tree.specs.declared.statement.Stmt.{Stmt}
 use Rattle.evo_tree.specs.declared.statement.Stmt.TheVariants as s
 use Rattle.evo_tree.specs.declared.terminal.Terminal.TheVariants as t
 use Rattle.evo_tree.specs.Pieces.{Piece, is_terminal, mark, is_identifier}
-use Rattle.evo_tree.specs.Expressions.{Rule, Nested, IsExpr}
+use Rattle.evo_tree.specs.Expressions.{Rule}
 use Rattle.evo_tree.specs.Statements as grammar
 use Rattle.evo_tree.specs.Statements.{IsStmt, IsBlock, BlockTail}
 use Rattle.evo_tree.specs.Declarations.{is_get}
-use Rattle.evo_parse_stmt.specs.Read.{block, block_of, inner_of}
-use Rattle.evo_parse_expr.specs.Read.{Reader}
+use Rattle.evo_parse_stmt.specs.Read.{block, block_of}
 use Rattle.evo_parse_expr.proofs.ReadsRule.{named_expr}
 use Rattle.evo_parse_stmt.proofs.Family.{block_grammar, nest_block}
 use Rattle.evo_parse_header.proofs.Sets.{but, In}
-use Rattle.evo_parse_header.proofs.Tests.{mark_is, is_marked, get_utf8, a_piece}
+use Rattle.evo_parse_expr.proofs.Tests.{mark_is}
+use Rattle.evo_parse_header.proofs.Tests.{is_marked, get_utf8, a_piece}
 use Rattle.evo_parse_decl.proofs.Accessors.{Blocks}
 use Rattle.evo_parse_decl.specs.Closed.{BlockAt, block_at}
 

@@ -1,27 +1,25 @@
 -- Declarations, given their kinds; and declarations between separators.
-use Rattle.std.proofs.Common.{◌≡◌, ℕ, zero, suc, ◌+◌, ◌-◌, ◌≤◌, Bool, true, false, List, [], ◌∷◌, ◌++◌, length, Option, Some, None, Ok, Err, refl, sym, ◌∙◌, ap, subst, arith, ◌⊎◌, inl, inr, append-nil}
-use Rattle.std.specs.Prelude.{◌&&◌, ◌||◌, not, map, flat_map, cond, codes}
+use Rattle.std.proofs.Common.{◌≡◌, ℕ, suc, ◌+◌, Bool, true, false, List, [], ◌∷◌, ◌++◌, length, Option, Some, None, Ok, Err, refl, sym, ◌∙◌, ap, subst, ◌⊎◌, inl, inr}
+use Rattle.std.specs.Prelude.{◌&&◌, ◌||◌, map, cond, codes}
 use Rattle.evo_base.specs.declared.place.Place.{Place}
 use Rattle.evo_combinators.specs.declared.Fault.TheVariants.{Grammar}
-use Rattle.evo_combinators.specs.Rule.{Empty, Fail, TokenThen, One, Or, Then, SomeOf, IsViablePrefix}
-use Rattle.evo_combinators.specs.Reader.{Outcome, ◌>>=◌, and_then, pure, refuse, alt, one, lead, paired, branch}
-use Rattle.evo_combinators.specs.Guard.{On, Run, on, run, run_from, starts}
-use Rattle.evo_combinators.specs.Laws.{Begins, GrowsWithNesting, ReadsRule, Takes, Skips, first, of_first}
-use Rattle.evo_combinators.proofs.Laws.{of_map, to_map, right_map, right_pure, right_nothing, right_same, right_then_by, right_stop, begins_then}
-use Rattle.evo_combinators.proofs.GrowsWithNesting.{deeper_then, same_refl}
+use Rattle.evo_combinators.specs.Rule.{Empty, Fail, Or, Then, IsViablePrefix}
+use Rattle.evo_combinators.specs.Reader.{◌>>=◌, and_then, pure, refuse, one}
+use Rattle.evo_combinators.specs.Guard.{Run, on, run, run_from, starts}
+use Rattle.evo_combinators.specs.Laws.{Begins, Takes, first, of_first}
+use Rattle.evo_combinators.proofs.Laws.{right_pure, right_same, begins_then}
+use Rattle.evo_combinators.proofs.GrowsWithNesting.{same_refl}
 use Rattle.evo_combinators.proofs.GuardDeeper.{deeper_choose}
 use Rattle.evo_combinators.proofs.GuardLaws.{starts_is, right_on}
 use Rattle.evo_combinators.proofs.FilterLaws.{right_filter}
 use Rattle.evo_combinators.proofs.Entered.{takes_alt, takes_then}
-use Rattle.evo_combinators.proofs.Sequences.{some_led, some_then, some_only}
 use Rattle.evo_tree.specs.declared.declaration.Attr.{Attr}
 use Rattle.evo_tree.specs.declared.declaration.Modifier.{Modifier}
 use Rattle.evo_tree.specs.declared.declaration.DeclKind.{DeclKind}
-use Rattle.evo_tree.specs.declared.declaration.Decl.{Decl}
 use Rattle.evo_tree.specs.declared.scope.Scope.{Scope}
 use Rattle.evo_tree.specs.declared.terminal.Terminal.TheVariants as t
 use Rattle.evo_tree.specs.Terminals.{number_of}
-use Rattle.evo_tree.specs.Pieces.{Piece, is_terminal, mark, word, opens_nesting}
+use Rattle.evo_tree.specs.Pieces.{Piece, is_terminal, mark, opens_nesting}
 use Rattle.evo_tree.specs.Expressions.{Rule}
 use Rattle.evo_tree.specs.Declarations as grammar
 use Rattle.evo_tree.specs.declared.declaration.AttrKind.TheVariants as attr
@@ -34,15 +32,17 @@ use Rattle.evo_parse_expr.proofs.Nesting.{May}
 use Rattle.evo_combinators.proofs.NestingRuns.{nest_filter}
 use Rattle.evo_parse_header.specs.Read.{is_modifier}
 use Rattle.evo_parse_decl.specs.Read.{begins_declaration, goes_on}
-use Rattle.evo_parse_header.proofs.Sets.{Set, these, In, included, among, Ends, none_holds, into}
+use Rattle.evo_parse_expr.proofs.Among.{among}
+use Rattle.evo_parse_header.proofs.Sets.{Set, these, In, included, Ends, none_holds, into, the_end}
 use Rattle.evo_parse_header.proofs.Parses.{Chooses, Parses, parses_then, parses_map, parses_alt, parses_run}
-use Rattle.evo_parse_header.proofs.Tests.{a_piece, mark_test, is_number, mark_is, is_marked, modifier_numbers}
+use Rattle.evo_parse_expr.proofs.Tests.{mark_is}
+use Rattle.evo_parse_header.proofs.Tests.{a_piece, mark_test, number_among, is_marked, modifier_numbers}
 use Rattle.evo_parse_header.proofs.Productions.{KindWords, Words, parses_attributes, parses_modifiers, modifier_is, is_modifier_word}
 use Rattle.evo_parse_decl.proofs.Prefixes.{takes_begun}
 
 -- what a declaration begins with
 abbrev pub Firsts : List ℕ
-Firsts = 74 ∷ Words ++ KindWords
+Firsts = number_of t.At ∷ Words ++ KindWords
 
 which : (b : Bool) → (b ≡ true) ⊎ (b ≡ false)
 which true = inl refl
@@ -84,15 +84,15 @@ modifiers_go u is = let (m, takes) = is_modifier_word [] u is in ([], m ∷ [], 
 
 module _ (s : Scope) (St : Set) (K : ℕ → List Attr → Rule (Place × List DeclKind)) (kind : ℕ → List Attr → Reader (Place × List DeclKind)) (g : Piece → Bool)
     (fits : (attrs : List Attr) → Parses (these KindWords) St (λ d. K d attrs) (λ d. kind d attrs)) (begins : (d : ℕ) → Begins (λ u. g u ≡ true) (K d []))
-    (takes : (d : ℕ) (u : Piece) → g u ≡ true → Takes (kind d []) u) (numbers : (u : Piece) → g u ≡ true → among (number_of u.terminal) Firsts ≡ true) where
+    (takes : (d : ℕ) (u : Piece) → g u ≡ true → Takes (kind d []) u) (numbers : (u : Piece) → g u ≡ true → among Firsts (number_of u.terminal) ≡ true) where
   parses_behind_modifiers : (attrs : List Attr) (ms : List Modifier) → Parses (these KindWords) St (λ d. Then (K d attrs) (λ w. Empty (map (declaration s attrs ms w.0) w.1))) (λ d. kind d attrs >>= (λ w. pure (map (declaration s attrs ms w.0) w.1)))
   parses_behind_modifiers attrs ms = parses_map (λ w. map (declaration s attrs ms w.0) w.1) (fits attrs)
 
-  parses_behind_attributes : (attrs : List Attr) → Parses (these (100 ∷ Words ++ KindWords)) St
+  parses_behind_attributes : (attrs : List Attr) → Parses (these (the_end ∷ Words ++ KindWords)) St
       (λ d. Then grammar.Modifiers (λ ms. Then (K d attrs) (λ w. Empty (map (declaration s attrs ms w.0) w.1)))) (λ d. header.modifiers >>= (λ ms. kind d attrs >>= (λ w. pure (map (declaration s attrs ms w.0) w.1))))
   parses_behind_attributes attrs = parses_then refl parses_modifiers (parses_behind_modifiers attrs)
 
-  pub parses_declaration : Parses (these (74 ∷ 100 ∷ Words ++ KindWords)) St (λ d. DeclarationOf s d (K d)) (λ d. read.declaration_of s d (kind d))
+  pub parses_declaration : Parses (these (number_of t.At ∷ the_end ∷ Words ++ KindWords)) St (λ d. DeclarationOf s d (K d)) (λ d. read.declaration_of s d (kind d))
   unfolding read.declaration_of
   parses_declaration = parses_then refl parses_attributes parses_behind_attributes
 
@@ -109,7 +109,7 @@ module _ (s : Scope) (St : Set) (K : ℕ → List Attr → Rule (Place × List D
   pub takes_declaration : (d : ℕ) (u : Piece) → begins_declaration g u ≡ true → Takes (read.declaration_of s d (kind d)) u
   unfolding read.declaration_of
   takes_declaration d u is = elim (which (is_terminal t.At u)) [
-    | inl at ↦ takes_begun (In (these (100 ∷ Words ++ KindWords))) (In St) (grammar.Attributes d) (grammar.Attributes (suc d)) _ _ (header.attributes d) _ (λ n. parses_attributes.chooses.right d n)
+    | inl at ↦ takes_begun (In (these (the_end ∷ Words ++ KindWords))) (In St) (grammar.Attributes d) (grammar.Attributes (suc d)) _ _ (header.attributes d) _ (λ n. parses_attributes.chooses.right d n)
         (λ attrs n. (parses_behind_attributes attrs).chooses.right d n) u (attributes_go d u at)
     | inr elsewhere ↦ λ us bad. later (or_rest (is_terminal t.At u) _ elsewhere is) us
         (sym (ap (λ o. and_then o (λ attrs. header.modifiers >>= (λ ms. kind d attrs >>= (λ w. pure (map (declaration s attrs ms w.0) w.1))))) (attributes_none d u us elsewhere)) ∙ bad)
@@ -124,15 +124,15 @@ module _ (s : Scope) (St : Set) (K : ℕ → List Attr → Rule (Place × List D
 
       later : (is_modifier [] u || g u) ≡ true → Takes (header.modifiers >>= (λ ms. kind d [] >>= (λ w. pure (map (declaration s [] ms w.0) w.1)))) u
       later is = elim (which (is_modifier [] u)) [
-        | inl modifier ↦ takes_begun (In (these (100 ∷ KindWords))) (In St) grammar.Modifiers grammar.Modifiers _ _ header.modifiers _ (λ n. parses_modifiers.chooses.right 0 n)
+        | inl modifier ↦ takes_begun (In (these (the_end ∷ KindWords))) (In St) grammar.Modifiers grammar.Modifiers _ _ header.modifiers _ (λ n. parses_modifiers.chooses.right 0 n)
             (λ ms n. (parses_behind_modifiers [] ms).chooses.right d n) u (modifiers_go u modifier)
         | inr elsewhere ↦ λ us bad. last (or_rest (is_modifier [] u) (g u) elsewhere is) us
             (sym (ap (λ o. and_then o (λ ms. kind d [] >>= (λ w. pure (map (declaration s [] ms w.0) w.1)))) (modifiers_none u us elsewhere)) ∙ bad)
       ]
 
-  pub numbers_of_declaration : (u : Piece) → begins_declaration g u ≡ true → among (number_of u.terminal) Firsts ≡ true
+  pub numbers_of_declaration : (u : Piece) → begins_declaration g u ≡ true → among Firsts (number_of u.terminal) ≡ true
   numbers_of_declaration u is = elim (which (is_terminal t.At u)) [
-    | inl at ↦ into (these (74 ∷ [])) (these Firsts) refl (Some u) (is_number t.At u at)
+    | inl at ↦ into (these (number_of t.At ∷ [])) (these Firsts) refl (Some u) (number_among t.At u at)
     | inr elsewhere ↦ elim (which (is_modifier [] u)) [
       | inl modifier ↦ let (m, takes') = is_modifier_word [] u modifier in into (these Words) (these Firsts) refl (Some u) (modifier_numbers [] u m takes')
       | inr other ↦ numbers u (or_rest (is_modifier [] u) (g u) other (or_rest (is_terminal t.At u) _ elsewhere is))
@@ -156,7 +156,7 @@ pub record Entered {A : Type 0} (F : Set) (g : Piece → Bool) (S : ℕ → Rule
   pub fits : Parses F Ends S p
   pub begins : (d : ℕ) → Begins (λ u. g u ≡ true) (S d)
   pub takes : (d : ℕ) (u : Piece) → g u ≡ true → Takes (p d) u
-  pub numbers : (u : Piece) → g u ≡ true → among (number_of u.terminal) Firsts ≡ true
+  pub numbers : (u : Piece) → g u ≡ true → among Firsts (number_of u.terminal) ≡ true
 
 module _ {A : Type 0} (F : Set) (g : Piece → Bool) (S : ℕ → Rule A) (p : ℕ → Reader A) (entered : Entered F g S p) where
   full : (d : ℕ) (x : A) → S d [] x → ⊥
@@ -180,7 +180,7 @@ module _ {A : Type 0} (F : Set) (g : Piece → Bool) (S : ℕ → Rule A) (p : �
         (nest_filter (May d) opens_nesting n (λ u. u.below) (S d) (p d) (entered.fits.chooses.nest d n));
   }
 
-  pub parses_next : Parses (these (71 ∷ Firsts)) Ends (λ d. Next (S d)) (λ d. read.next (p d))
+  pub parses_next : Parses (these (number_of t.Semicolon ∷ Firsts)) Ends (λ d. Next (S d)) (λ d. read.next (p d))
   unfolding read.next
   parses_next = parses_alt {H = these Firsts} refl refl refl refl (mark_test t.Semicolon) (λ _. entered.fits) chooses_below
 
@@ -202,10 +202,10 @@ module _ {A : Type 0} (F : Set) (g : Piece → Bool) (S : ℕ → Rule A) (p : �
             entered.takes d u h us (sym (ap (λ c. cond c (p d (u ∷ us)) (Err (Grammar (suc (length us))))) (starts_is (λ u. u.below) (u ∷ us) ∙ below)) ∙ bad)
       ])
 
-  pub numbers_of_next : (u : Piece) → goes_on g u ≡ true → among (number_of u.terminal) (71 ∷ Firsts) ≡ true
+  pub numbers_of_next : (u : Piece) → goes_on g u ≡ true → among (number_of t.Semicolon ∷ Firsts) (number_of u.terminal) ≡ true
   numbers_of_next u is = elim (which (is_terminal t.Semicolon u)) [
-    | inl here ↦ into (these (71 ∷ [])) (these (71 ∷ Firsts)) refl (Some u) (is_number t.Semicolon u here)
-    | inr elsewhere ↦ into (these Firsts) (these (71 ∷ Firsts)) refl (Some u) (entered.numbers u (below_of g u (or_rest (is_terminal t.Semicolon u) _ elsewhere is)).1)
+    | inl here ↦ into (these (number_of t.Semicolon ∷ [])) (these (number_of t.Semicolon ∷ Firsts)) refl (Some u) (number_among t.Semicolon u here)
+    | inr elsewhere ↦ into (these Firsts) (these (number_of t.Semicolon ∷ Firsts)) refl (Some u) (entered.numbers u (below_of g u (or_rest (is_terminal t.Semicolon u) _ elsewhere is)).1)
   ]
 
   abbrev Nexts : ℕ → Rule (List A)
@@ -214,8 +214,8 @@ module _ {A : Type 0} (F : Set) (g : Piece → Bool) (S : ℕ → Rule A) (p : �
   abbrev nexts : ℕ → Reader (List A)
   nexts d = run (λ _. goes_on g) (λ _. read.next (p d)) (λ first _. first) true
 
-  parses_nexts : Parses (these (69 ∷ 100 ∷ 71 ∷ Firsts)) (these (69 ∷ 100 ∷ [])) Nexts nexts
-  parses_nexts = parses_run _ _ Ends _ (71 ∷ Firsts) (λ _. goes_on g) (λ d _. Next (S d)) (λ d _. read.next (p d)) (λ first _. first) refl refl refl refl refl (λ _. parses_next.chooses)
+  parses_nexts : Parses (these (number_of t.CloseBrace ∷ the_end ∷ number_of t.Semicolon ∷ Firsts)) (these (number_of t.CloseBrace ∷ the_end ∷ [])) Nexts nexts
+  parses_nexts = parses_run _ _ Ends _ (number_of t.Semicolon ∷ Firsts) (λ _. goes_on g) (λ d _. Next (S d)) (λ d _. read.next (p d)) (λ first _. first) refl refl refl refl refl (λ _. parses_next.chooses)
       (λ d _. begins_next d) (λ _. numbers_of_next) (λ d _. takes_next d) true
 
   abbrev All : ℕ → Rule (List A)
@@ -224,32 +224,32 @@ module _ {A : Type 0} (F : Set) (g : Piece → Bool) (S : ℕ → Rule A) (p : �
   abbrev all : ℕ → Reader (List A)
   all d = p d >>= (λ x. nexts d >>= (λ xs. pure (x ∷ xs)))
 
-  parses_tail : (x : A) → Parses (these (69 ∷ 100 ∷ 71 ∷ Firsts)) (these (69 ∷ 100 ∷ [])) (λ d. Then (Nexts d) (λ xs. Empty (x ∷ xs))) (λ d. nexts d >>= (λ xs. pure (x ∷ xs)))
+  parses_tail : (x : A) → Parses (these (number_of t.CloseBrace ∷ the_end ∷ number_of t.Semicolon ∷ Firsts)) (these (number_of t.CloseBrace ∷ the_end ∷ [])) (λ d. Then (Nexts d) (λ xs. Empty (x ∷ xs))) (λ d. nexts d >>= (λ xs. pure (x ∷ xs)))
   parses_tail x = parses_map (λ xs. x ∷ xs) parses_nexts
 
-  parses_all : Parses F (these (69 ∷ 100 ∷ [])) All all
+  parses_all : Parses F (these (number_of t.CloseBrace ∷ the_end ∷ [])) All all
   parses_all = parses_then refl entered.fits parses_tail
 
-  no_first : (x : Option Piece) → In (these (69 ∷ 100 ∷ [])) x → of_first g x ≡ false
+  no_first : (x : Option Piece) → In (these (number_of t.CloseBrace ∷ the_end ∷ [])) x → of_first g x ≡ false
   no_first None h = refl
   no_first (Some u) h = go (g u) refl
     where
       go : (c : Bool) → g u ≡ c → c ≡ false
-      go true is = absurd (none_holds (these (69 ∷ 100 ∷ [])) (number_of u.terminal) Firsts refl (entered.numbers u is) h)
+      go true is = absurd (none_holds (these (number_of t.CloseBrace ∷ the_end ∷ [])) (number_of u.terminal) Firsts refl (entered.numbers u is) h)
       go false is = refl
 
-  pub parses_lines : included F (these (69 ∷ 100 ∷ 71 ∷ Firsts)) ≡ true → Parses (these (69 ∷ 100 ∷ 71 ∷ Firsts)) (these (69 ∷ 100 ∷ [])) (λ d. Lines (S d)) (λ d. read.lines g (p d))
+  pub parses_lines : included F (these (number_of t.CloseBrace ∷ the_end ∷ number_of t.Semicolon ∷ Firsts)) ≡ true → Parses (these (number_of t.CloseBrace ∷ the_end ∷ number_of t.Semicolon ∷ Firsts)) (these (number_of t.CloseBrace ∷ the_end ∷ [])) (λ d. Lines (S d)) (λ d. read.lines g (p d))
   unfolding read.lines
   parses_lines wide = record {
     chooses = record {
-      right = λ d n. right_on n (In (these (69 ∷ 100 ∷ []))) g (All d) (All (suc d)) (Empty []) (Empty []) (all d) (pure []) (parses_all.chooses.right d n) (right_pure n (In (these (69 ∷ 100 ∷ []))) refl [])
+      right = λ d n. right_on n (In (these (number_of t.CloseBrace ∷ the_end ∷ []))) g (All d) (All (suc d)) (Empty []) (Empty []) (all d) (pure []) (parses_all.chooses.right d n) (right_pure n (In (these (number_of t.CloseBrace ∷ the_end ∷ []))) refl [])
           (begins_then (λ u. g u ≡ true) (S d) (λ x. Then (Nexts d) (λ xs. Empty (x ∷ xs))) (entered.begins d))
-          (λ u us fits is bad. takes_then (In Ends) (In (these (69 ∷ 100 ∷ []))) (S d) (S (suc d)) (λ x. Then (Nexts d) (λ xs. Empty (x ∷ xs))) (λ x. Then (Nexts (suc d)) (λ xs. Empty (x ∷ xs))) (p d) (λ x. nexts d >>= (λ xs. pure (x ∷ xs))) u (λ n. entered.fits.chooses.right d n) (λ x n. (parses_tail x).chooses.right d n) (full d) (entered.takes d u is) us bad)
+          (λ u us fits is bad. takes_then (In Ends) (In (these (number_of t.CloseBrace ∷ the_end ∷ []))) (S d) (S (suc d)) (λ x. Then (Nexts d) (λ xs. Empty (x ∷ xs))) (λ x. Then (Nexts (suc d)) (λ xs. Empty (x ∷ xs))) (p d) (λ x. nexts d >>= (λ xs. pure (x ∷ xs))) u (λ n. entered.fits.chooses.right d n) (λ x n. (parses_tail x).chooses.right d n) (full d) (entered.takes d u is) us bad)
           (λ us rest x s stop. ap (λ y. starts g (y ++ rest)) s.0 ∙ starts_is g rest ∙ no_first (first rest) stop);
       deeper = λ d. deeper_choose (starts g) (all d) (all (suc d)) (pure []) (pure []) (parses_all.chooses.deeper d) (same_refl (pure []));
       front = λ d us rest x s stop. elim s [
-        | inl s' ↦ into F (these (69 ∷ 100 ∷ 71 ∷ Firsts)) wide (first (us ++ rest)) (parses_all.chooses.front d us rest x s' stop)
-        | inr s' ↦ subst (λ y. In (these (69 ∷ 100 ∷ 71 ∷ Firsts)) (first (y ++ rest))) (sym s'.0) (into (these (69 ∷ 100 ∷ [])) (these (69 ∷ 100 ∷ 71 ∷ Firsts)) refl (first rest) stop)
+        | inl s' ↦ into F (these (number_of t.CloseBrace ∷ the_end ∷ number_of t.Semicolon ∷ Firsts)) wide (first (us ++ rest)) (parses_all.chooses.front d us rest x s' stop)
+        | inr s' ↦ subst (λ y. In (these (number_of t.CloseBrace ∷ the_end ∷ number_of t.Semicolon ∷ Firsts)) (first (y ++ rest))) (sym s'.0) (into (these (number_of t.CloseBrace ∷ the_end ∷ [])) (these (number_of t.CloseBrace ∷ the_end ∷ number_of t.Semicolon ∷ Firsts)) refl (first rest) stop)
       ];
       nest = λ d n. nest_choose (May d) opens_nesting n (starts g) (All d) (Empty []) (all d) (pure []) (parses_all.chooses.nest d n) (nest_pure (May d) opens_nesting n (Empty []) []);
     };

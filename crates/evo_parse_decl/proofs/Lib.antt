@@ -6,7 +6,7 @@ pub mod Members
 pub mod Declared
 pub mod Top
 pub mod Concrete
-pub mod Numbers
+pub mod Runs
 pub mod ModuleParts
 pub mod ClientParts
 pub mod Whole

@@ -1,39 +1,30 @@
 -- KindWords of declarations, declarations and members.
-use Rattle.std.proofs.Common.{◌≡◌, ℕ, zero, suc, ◌+◌, ◌-◌, ◌≤◌, Bool, true, false, List, [], ◌∷◌, ◌++◌, length, Option, Some, None, Ok, Err, refl, sym, ◌∙◌, ap, subst, arith, ◌⊎◌, inl, inr, append-nil}
-use Rattle.std.specs.Prelude.{◌&&◌, ◌||◌, not, map, flat_map, cond}
-use Rattle.std.specs.Option.{is_some}
+use Rattle.std.proofs.Common.{◌≡◌, ℕ, suc, Bool, true, false, List, [], ◌∷◌, length, Option, Some, None, Err, refl, sym, ◌∙◌, ap, arith, ◌⊎◌, inl, inr}
+use Rattle.std.specs.Prelude.{◌&&◌, ◌||◌, not}
 use Rattle.evo_base.specs.declared.place.Place.{Place}
 use Rattle.evo_combinators.specs.declared.Fault.TheVariants.{Grammar}
-use Rattle.evo_combinators.specs.Rule.{Empty, Fail, TokenThen, One, Or, Then, SomeOf, IsViablePrefix}
-use Rattle.evo_combinators.specs.Reader.{◌>>=◌, and_then, pure, refuse, alt, one, lead, paired, branch}
-use Rattle.evo_combinators.specs.Guard.{On, Run, on, run, starts}
-use Rattle.evo_combinators.specs.Laws.{Begins, GrowsWithNesting, ReadsRule, Takes, first, of_first}
-use Rattle.evo_combinators.proofs.Laws.{of_map, to_map, right_map, begins_then}
-use Rattle.evo_combinators.proofs.Sequences.{some_led, some_then, some_only}
+use Rattle.evo_combinators.specs.Rule.{Fail, TokenThen, Or, SomeOf}
+use Rattle.evo_combinators.specs.Reader.{refuse, alt, lead, paired, branch}
+use Rattle.evo_combinators.specs.Laws.{Begins, ReadsRule, Takes}
 use Rattle.evo_tree.specs.declared.statement.Block.{Block}
 use Rattle.evo_tree.specs.declared.statement.Introducer.TheVariants as introducer
 use Rattle.evo_tree.specs.declared.declaration.Attr.{Attr}
-use Rattle.evo_tree.specs.declared.declaration.NominalKind.{NominalKind}
-use Rattle.evo_tree.specs.declared.declaration.Modifier.{Modifier}
-use Rattle.evo_tree.specs.declared.declaration.Accessors.TheVariants as accessors
-use Rattle.evo_tree.specs.declared.declaration.DeclKind.{DeclKind}
 use Rattle.evo_tree.specs.declared.declaration.DeclKind.TheVariants as k
-use Rattle.evo_tree.specs.declared.declaration.Decl.{Decl}
 use Rattle.evo_tree.specs.declared.scope.Scope.{Scope}
-use Rattle.evo_tree.specs.declared.scope.Scope.TheVariants as scope
 use Rattle.evo_tree.specs.declared.terminal.Terminal.{Terminal}
 use Rattle.evo_tree.specs.declared.terminal.Terminal.TheVariants as t
 use Rattle.evo_tree.specs.Terminals.{number_of}
-use Rattle.evo_tree.specs.Pieces.{Piece, is_terminal, mark, identifier}
-use Rattle.evo_tree.specs.Expressions.{Rule, Nested}
+use Rattle.evo_tree.specs.Pieces.{Piece, is_terminal, mark}
+use Rattle.evo_tree.specs.Expressions.{Rule}
 use Rattle.evo_tree.specs.Declarations as grammar
-use Rattle.evo_tree.specs.Declarations.{only_if, is_protocol, is_enum, has_body, may_stand, may_be_stored, scope_of, declaration, one_kind, nominal_word, modifier_word, Lines, Next, Below}
+use Rattle.evo_tree.specs.Declarations.{only_if, is_protocol, is_enum, has_body, may_stand, may_be_stored, one_kind}
 use Rattle.evo_parse_decl.specs.Read as read
 use Rattle.evo_parse_expr.specs.Read.{Reader}
 use Rattle.evo_parse_decl.specs.Read.{begins_kind}
-use Rattle.evo_parse_header.proofs.Sets.{Set, these, but, In, Ends, EndsOrBrace}
+use Rattle.evo_parse_header.proofs.Sets.{Set, these, but, In, Ends, EndsOrBrace, the_end}
 use Rattle.evo_parse_header.proofs.Parses.{Chooses, Parses, parses_pure, parses_as, parses_before, parses_then, parses_map, parses_led, chooses_alt_if, chooses_nothing}
-use Rattle.evo_parse_header.proofs.Tests.{mark_test, identifier_test, mark_is, is_marked, not_marked}
+use Rattle.evo_parse_expr.proofs.Tests.{mark_is}
+use Rattle.evo_parse_header.proofs.Tests.{mark_test, identifier_test, is_marked, not_marked}
 use Rattle.evo_parse_header.proofs.Productions.{KindWords, parses_type, parses_header}
 use Rattle.evo_parse_header.proofs.Payloads.{parses_cases}
 use Rattle.evo_parse_decl.proofs.Productions.{parses_let, parses_alias, parses_associated}
@@ -87,19 +78,19 @@ module _ (B : ℕ → Bool → Rule Block) (b : ℕ → Bool → Reader Block) (
 
   pub parses_body : (inits has : Bool) → Parses EndsOrBrace Ends (λ d. grammar.Body B d inits has) (λ d. read.body b d inits has)
   unfolding read.body
-  parses_body inits true = parses_as {F = these (68 ∷ [])} {St = Anything} refl refl refl (parses_map (λ x. Some x) (parses_block B b blocks inits))
+  parses_body inits true = parses_as {F = these (number_of t.OpenBrace ∷ [])} {St = Anything} refl refl refl (parses_map (λ x. Some x) (parses_block B b blocks inits))
   parses_body inits false = parses_as {F = Ends} {St = Ends} refl refl refl (parses_pure refl None)
 
   module _ (interface : Bool) (s : Scope) where
-    pub parses_function : (attrs : List Attr) (p : Place) → Parses (these (0 ∷ [])) Ends (λ d. grammar.FunctionTail B interface s d attrs p) (λ d. read.rest_of_function b interface s d attrs p)
+    pub parses_function : (attrs : List Attr) (p : Place) → Parses (these (number_of t.Identifier ∷ [])) Ends (λ d. grammar.FunctionTail B interface s d attrs p) (λ d. read.rest_of_function b interface s d attrs p)
     unfolding read.rest_of_function
     parses_function attrs p = parses_led refl refl refl identifier_test (λ n. parses_then refl (parses_header s true) (λ h. parses_map (λ x. one_kind p (k.Function n h x)) (parses_body false (has_body interface s attrs))))
 
-    parses_initialiser : (attrs : List Attr) (p : Place) → Parses (these (49 ∷ 66 ∷ 100 ∷ [])) Ends (λ d. grammar.InitialiserTail B interface s d attrs p) (λ d. read.rest_of_initialiser b interface s d attrs p)
+    parses_initialiser : (attrs : List Attr) (p : Place) → Parses (these (number_of t.Less ∷ number_of t.OpenParenthesis ∷ the_end ∷ [])) Ends (λ d. grammar.InitialiserTail B interface s d attrs p) (λ d. read.rest_of_initialiser b interface s d attrs p)
     unfolding read.rest_of_initialiser
     parses_initialiser attrs p = parses_then refl (parses_header s false) (λ h. parses_map (λ x. one_kind p (k.Initialiser h x)) (parses_body true (has_body interface s attrs)))
 
-    parses_var : (attrs : List Attr) (p : Place) → Parses (these (0 ∷ [])) Ends (λ d. grammar.VarTail B interface s d attrs p) (λ d. read.rest_of_var b interface s d attrs p)
+    parses_var : (attrs : List Attr) (p : Place) → Parses (these (number_of t.Identifier ∷ [])) Ends (λ d. grammar.VarTail B interface s d attrs p) (λ d. read.rest_of_var b interface s d attrs p)
     unfolding read.rest_of_var
     parses_var attrs p = parses_led refl refl refl identifier_test (λ n. parses_led {F = Anything} refl refl refl (mark_test t.Colon)
         (λ _. parses_then refl parses_type (λ type. parses_map (λ a. one_kind p (k.Property introducer.Var n type a)) (parses_accessors B b blocks (has_body interface s attrs) (may_be_stored interface s attrs)))))
@@ -107,12 +98,12 @@ module _ (B : ℕ → Bool → Rule Block) (b : ℕ → Bool → Reader Block) (
     chooses_kind : (attrs : List Attr) → Chooses (these KindWords) Ends (λ d. grammar.MemberKind B interface s d attrs) (λ d. read.member_kind b interface s d attrs)
     unfolding read.member_kind
     chooses_kind attrs =
-        chooses_alt_if {H = these (11 ∷ 12 ∷ 13 ∷ 14 ∷ 15 ∷ 16 ∷ [])} refl refl refl refl (may_stand interface s attrs) (mark_test t.Func) (λ _ p. parses_function attrs p)
-        (chooses_alt_if {H = these (12 ∷ 13 ∷ 14 ∷ 15 ∷ 16 ∷ [])} refl refl refl refl (not (is_protocol s)) (mark_test t.Init) (λ _ p. parses_initialiser attrs p)
-        (chooses_alt_if {H = these (13 ∷ 14 ∷ 15 ∷ 16 ∷ [])} refl refl refl refl (may_stand interface s attrs) (mark_test t.Var) (λ _ p. parses_var attrs p)
-        (chooses_alt_if {H = these (14 ∷ 15 ∷ 16 ∷ [])} refl refl refl refl (may_be_stored interface s attrs) (mark_test t.Let) (λ _ p. parses_let p)
-        (chooses_alt_if {H = these (15 ∷ 16 ∷ [])} refl refl refl refl (not (is_protocol s)) (mark_test t.Typealias) (λ _ p. parses_alias p)
-        (chooses_alt_if {H = these (16 ∷ [])} refl refl refl refl (is_protocol s) (mark_test t.Associatedtype) (λ _ p. parses_associated p)
+        chooses_alt_if {H = these (number_of t.Init ∷ number_of t.Var ∷ number_of t.Let ∷ number_of t.Typealias ∷ number_of t.Associatedtype ∷ number_of t.Case ∷ [])} refl refl refl refl (may_stand interface s attrs) (mark_test t.Func) (λ _ p. parses_function attrs p)
+        (chooses_alt_if {H = these (number_of t.Var ∷ number_of t.Let ∷ number_of t.Typealias ∷ number_of t.Associatedtype ∷ number_of t.Case ∷ [])} refl refl refl refl (not (is_protocol s)) (mark_test t.Init) (λ _ p. parses_initialiser attrs p)
+        (chooses_alt_if {H = these (number_of t.Let ∷ number_of t.Typealias ∷ number_of t.Associatedtype ∷ number_of t.Case ∷ [])} refl refl refl refl (may_stand interface s attrs) (mark_test t.Var) (λ _ p. parses_var attrs p)
+        (chooses_alt_if {H = these (number_of t.Typealias ∷ number_of t.Associatedtype ∷ number_of t.Case ∷ [])} refl refl refl refl (may_be_stored interface s attrs) (mark_test t.Let) (λ _ p. parses_let p)
+        (chooses_alt_if {H = these (number_of t.Associatedtype ∷ number_of t.Case ∷ [])} refl refl refl refl (not (is_protocol s)) (mark_test t.Typealias) (λ _ p. parses_alias p)
+        (chooses_alt_if {H = these (number_of t.Case ∷ [])} refl refl refl refl (is_protocol s) (mark_test t.Associatedtype) (λ _ p. parses_associated p)
         (chooses_alt_if {H = these []} refl refl refl refl (is_enum s) (mark_test t.Case) (λ _ p. parses_before refl refl (parses_cases p)) (chooses_nothing refl)))))))
 
     alias_or_associated : (attrs : List Attr) (d : ℕ) → (is_protocol s ≡ true) ⊎ (is_protocol s ≡ false) → SomeOf (grammar.MemberKind B interface s (suc d) attrs)
@@ -158,4 +149,4 @@ module _ (B : ℕ → Bool → Rule Block) (b : ℕ → Bool → Reader Block) (
         (takes_or (In Ends) (may_be_stored interface s attrs) t.Let (λ p n. (parses_let p).chooses.right d n)
         (takes_or (In Ends) (not (is_protocol s)) t.Typealias (λ p n. (parses_alias p).chooses.right d n)
         (takes_or (In Ends) (is_protocol s) t.Associatedtype (λ p n. (parses_associated p).chooses.right d n)
-        (takes_or (In (but (66 ∷ 70 ∷ []))) (is_enum s) t.Case (λ p n. (parses_cases p).chooses.right d n) takes_none))))))).takes is
+        (takes_or (In (but (number_of t.OpenParenthesis ∷ number_of t.Comma ∷ []))) (is_enum s) t.Case (λ p n. (parses_cases p).chooses.right d n) takes_none))))))).takes is

@@ -1,14 +1,13 @@
 -- Members in braces, and declarations at the top level.
-use Rattle.std.proofs.Common.{◌≡◌, ℕ, zero, suc, ◌+◌, ◌-◌, ◌≤◌, Bool, true, false, List, [], ◌∷◌, ◌++◌, length, Option, Some, None, Ok, Err, refl, sym, ◌∙◌, ap, subst, arith, ◌⊎◌, inl, inr, append-nil}
-use Rattle.std.specs.Prelude.{◌&&◌, ◌||◌, not, map, flat_map}
+use Rattle.std.proofs.Common.{◌≡◌, ℕ, suc, ◌+◌, Bool, true, false, List, [], ◌∷◌, ◌++◌, Option, Some, None, refl, sym, ◌∙◌, ap, inl, inr}
+use Rattle.std.specs.Prelude.{◌&&◌, ◌||◌, not, flat_map}
 use Rattle.std.specs.Option.{is_some}
 use Rattle.evo_base.specs.declared.place.Place.{Place}
-use Rattle.evo_combinators.specs.declared.Fault.TheVariants.{Grammar}
-use Rattle.evo_combinators.specs.Rule.{Empty, Fail, TokenThen, One, Or, Then, SomeOf, IsViablePrefix}
-use Rattle.evo_combinators.specs.Reader.{◌>>=◌, pure, refuse, alt, one, lead, paired, branch}
-use Rattle.evo_combinators.specs.Laws.{Begins, ReadsRule, Takes, first, GrammarOf}
+use Rattle.evo_combinators.specs.Rule.{SomeOf}
+use Rattle.evo_combinators.specs.Reader.{refuse, alt}
+use Rattle.evo_combinators.specs.Laws.{Begins, Takes, GrammarOf}
 use Rattle.evo_combinators.proofs.Laws.{to_map}
-use Rattle.evo_combinators.proofs.Entered.{takes_alt, refused_within}
+use Rattle.evo_combinators.proofs.Entered.{takes_alt}
 use Rattle.evo_combinators.proofs.Sequences.{some_then}
 use Rattle.evo_tree.specs.declared.statement.Block.{Block}
 use Rattle.evo_tree.specs.declared.declaration.Attr.{Attr}
@@ -21,17 +20,19 @@ use Rattle.evo_tree.specs.declared.scope.Scope.TheVariants as scope
 use Rattle.evo_tree.specs.declared.terminal.Terminal.{Terminal}
 use Rattle.evo_tree.specs.declared.terminal.Terminal.TheVariants as t
 use Rattle.evo_tree.specs.Terminals.{number_of}
-use Rattle.evo_tree.specs.Pieces.{Piece, is_terminal, mark, identifier}
-use Rattle.evo_tree.specs.Expressions.{Rule, Nested}
+use Rattle.evo_tree.specs.Pieces.{Piece, is_terminal, mark}
+use Rattle.evo_tree.specs.Expressions.{Rule}
 use Rattle.evo_tree.specs.Declarations as grammar
-use Rattle.evo_tree.specs.Declarations.{is_protocol, is_enum, may_stand, may_be_stored, has_body, scope_of, one_kind, nominal_word, DeclarationOf, Within}
+use Rattle.evo_tree.specs.Declarations.{is_protocol, is_enum, may_stand, may_be_stored, scope_of, one_kind, nominal_word, DeclarationOf}
 use Rattle.evo_parse_decl.specs.Read as read
 use Rattle.evo_parse_expr.specs.Read.{Reader}
 use Rattle.evo_parse_expr.proofs.Nesting.{ReadsInner}
 use Rattle.evo_parse_decl.specs.Read.{begins_kind, begins_member, begins_top, begins_top_kind}
-use Rattle.evo_parse_header.proofs.Sets.{Set, these, but, In, included, contains, among, Ends, into}
+use Rattle.evo_parse_expr.proofs.Among.{among}
+use Rattle.evo_parse_header.proofs.Sets.{Set, these, but, In, included, contains, Ends, into, the_end}
 use Rattle.evo_parse_header.proofs.Parses.{Parses, parses_pure, parses_before, parses_then, parses_map, parses_led, parses_opens, chooses_alt, parses_alt, chooses_nothing}
-use Rattle.evo_parse_header.proofs.Tests.{mark_test, identifier_test, nominal_test, is_number, mark_is, is_marked}
+use Rattle.evo_parse_expr.proofs.Tests.{mark_is}
+use Rattle.evo_parse_header.proofs.Tests.{mark_test, identifier_test, nominal_test, number_among, is_marked}
 use Rattle.evo_parse_header.proofs.Productions.{KindWords, Words, parses_type, parses_inherited, parses_header}
 use Rattle.evo_parse_decl.proofs.Accessors.{Blocks, parses_block}
 use Rattle.evo_parse_decl.proofs.Members.{which, or_left, or_right, or_rest, parses_function, parses_kind, begins_of_kind, takes_kind}
@@ -41,10 +42,10 @@ abbrev Anything : Set
 Anything = but []
 
 -- a token that one of some tests takes is among the first ones
-among_or : (c : Bool) (f : Terminal) (u : Piece) (rest : Bool) → included (these (number_of f ∷ [])) (these Firsts) ≡ true → (rest ≡ true → among (number_of u.terminal) Firsts ≡ true) →
-    ((c && is_terminal f u) || rest) ≡ true → among (number_of u.terminal) Firsts ≡ true
+among_or : (c : Bool) (f : Terminal) (u : Piece) (rest : Bool) → included (these (number_of f ∷ [])) (these Firsts) ≡ true → (rest ≡ true → among Firsts (number_of u.terminal) ≡ true) →
+    ((c && is_terminal f u) || rest) ≡ true → among Firsts (number_of u.terminal) ≡ true
 among_or true f u rest wide other is = elim (which (is_terminal f u)) [
-  | inl here ↦ into (these (number_of f ∷ [])) (these Firsts) wide (Some u) (is_number f u here)
+  | inl here ↦ into (these (number_of f ∷ [])) (these Firsts) wide (Some u) (number_among f u here)
   | inr elsewhere ↦ other (or_rest (is_terminal f u) rest elsewhere is)
 ]
 among_or false f u rest wide other is = other is
@@ -62,7 +63,7 @@ is_nominal u is = go (nominal_word u) is
 module _ (B : ℕ → Bool → Rule Block) (b : ℕ → Bool → Reader Block) (blocks : Blocks B b) where
   -- ---- members
 
-  kind_numbers : (interface : Bool) (s : Scope) (u : Piece) → begins_kind interface s [] u ≡ true → among (number_of u.terminal) Firsts ≡ true
+  kind_numbers : (interface : Bool) (s : Scope) (u : Piece) → begins_kind interface s [] u ≡ true → among Firsts (number_of u.terminal) ≡ true
   kind_numbers interface s u is =
       among_or (may_stand interface s []) t.Func u _ refl (among_or (not (is_protocol s)) t.Init u _ refl (among_or (may_stand interface s []) t.Var u _ refl (among_or (may_be_stored interface s []) t.Let u _ refl
       (among_or (not (is_protocol s)) t.Typealias u _ refl (among_or (is_protocol s) t.Associatedtype u _ refl (among_or (is_enum s) t.Case u false refl (λ none. absurd (cc)))))))) is
@@ -73,7 +74,7 @@ module _ (B : ℕ → Bool → Rule Block) (b : ℕ → Bool → Reader Block) (
   abbrev member : Bool → Scope → ℕ → Reader (List Decl)
   member interface s d = read.declaration_of s d (read.member_kind b interface s d)
 
-  enters_member : (interface : Bool) (s : Scope) → Entered (these (74 ∷ 100 ∷ Words ++ KindWords)) (begins_member interface s) (Member interface s) (member interface s)
+  enters_member : (interface : Bool) (s : Scope) → Entered (these (number_of t.At ∷ the_end ∷ Words ++ KindWords)) (begins_member interface s) (Member interface s) (member interface s)
   unfolding begins_member
   enters_member interface s =
       let fits = parses_kind B b blocks interface s in
@@ -87,14 +88,14 @@ module _ (B : ℕ → Bool → Rule Block) (b : ℕ → Bool → Reader Block) (
         numbers = numbers_of_declaration s Ends K kind (begins_kind interface s []) fits begins takes (kind_numbers interface s);
       }
 
-  parses_are_members : (interface : Bool) (s : Scope) → Parses (these (69 ∷ 100 ∷ 71 ∷ Firsts)) (these (69 ∷ 100 ∷ [])) (λ d. grammar.AreMembers B interface s d) (λ d. read.are_members b interface s d)
+  parses_are_members : (interface : Bool) (s : Scope) → Parses (these (number_of t.CloseBrace ∷ the_end ∷ number_of t.Semicolon ∷ Firsts)) (these (number_of t.CloseBrace ∷ the_end ∷ [])) (λ d. grammar.AreMembers B interface s d) (λ d. read.are_members b interface s d)
   unfolding read.are_members
-  parses_are_members interface s = parses_map (λ ds. flat_map (λ d. d) ds) (parses_lines (these (74 ∷ 100 ∷ Words ++ KindWords)) (begins_member interface s) (Member interface s) (member interface s) (enters_member interface s) refl)
+  parses_are_members interface s = parses_map (λ ds. flat_map (λ d. d) ds) (parses_lines (these (number_of t.At ∷ the_end ∷ Words ++ KindWords)) (begins_member interface s) (Member interface s) (member interface s) (enters_member interface s) refl)
 
-  pub parses_members : (interface : Bool) (s : Scope) → Parses (these (68 ∷ [])) Anything (λ d. grammar.Members B interface d s) (λ d. read.members b interface d s)
+  pub parses_members : (interface : Bool) (s : Scope) → Parses (these (number_of t.OpenBrace ∷ [])) Anything (λ d. grammar.Members B interface d s) (λ d. read.members b interface d s)
   unfolding read.members
   parses_members interface s =
-      let close = λ (ms : List Decl). parses_led {F = these (69 ∷ [])} {St = Anything} refl refl refl (mark_test t.CloseBrace) (λ _. parses_pure refl ms) in
+      let close = λ (ms : List Decl). parses_led {F = these (number_of t.CloseBrace ∷ [])} {St = Anything} refl refl refl (mark_test t.CloseBrace) (λ _. parses_pure refl ms) in
       let inside = parses_then refl (parses_are_members interface s) close in
       let none : SomeOf (grammar.AreMembers B interface s 0) = ([], [], to_map _ (λ ds. flat_map (λ d. d) ds) [] [] (inr (refl, refl))) in
       parses_opens {H = these []} refl refl refl refl (mark_test t.OpenBrace) (λ _. some_then (grammar.AreMembers B interface s 0) _ none (λ ms. (close ms).some 0)) (λ _. inside) (chooses_nothing refl)
@@ -102,20 +103,20 @@ module _ (B : ℕ → Bool → Rule Block) (b : ℕ → Bool → Reader Block) (
   -- ---- the top level
 
   module _ (interface : Bool) where
-    parses_nominal : (attrs : List Attr) (w : Place × NominalKind) → Parses (these (0 ∷ [])) Anything (λ d. grammar.NominalTail B interface d attrs w) (λ d. read.rest_of_nominal b interface d attrs w)
+    parses_nominal : (attrs : List Attr) (w : Place × NominalKind) → Parses (these (number_of t.Identifier ∷ [])) Anything (λ d. grammar.NominalTail B interface d attrs w) (λ d. read.rest_of_nominal b interface d attrs w)
     unfolding read.rest_of_nominal
     parses_nominal attrs w = parses_led refl refl refl identifier_test (λ n. parses_then refl parses_inherited (λ is. parses_map (λ ms. one_kind w.0 (k.Nominal w.1 n is ms)) (parses_members interface (scope_of w.1 attrs))))
 
-    parses_extension : (p : Place) → Parses (these (0 ∷ 26 ∷ [])) Anything (λ d. grammar.ExtensionTail B interface d p) (λ d. read.rest_of_extension b interface d p)
+    parses_extension : (p : Place) → Parses (these (number_of t.Identifier ∷ number_of t.SelfType ∷ [])) Anything (λ d. grammar.ExtensionTail B interface d p) (λ d. read.rest_of_extension b interface d p)
     unfolding read.rest_of_extension
     parses_extension p = parses_then refl parses_type (λ type. parses_then refl parses_inherited (λ is. parses_map (λ ms. one_kind p (k.Extension type is ms)) (parses_members interface scope.Extension)))
 
-    module _ (St : Set) (any : included St Anything ≡ true) (ended : contains St 100 ≡ true)
-        (function : (attrs : List Attr) (p : Place) → Parses (these (0 ∷ [])) St (λ d. grammar.FunctionTail B interface scope.TopLevel d attrs p) (λ d. read.rest_of_function b interface scope.TopLevel d attrs p)) where
+    module _ (St : Set) (any : included St Anything ≡ true) (ended : contains St the_end ≡ true)
+        (function : (attrs : List Attr) (p : Place) → Parses (these (number_of t.Identifier ∷ [])) St (λ d. grammar.FunctionTail B interface scope.TopLevel d attrs p) (λ d. read.rest_of_function b interface scope.TopLevel d attrs p)) where
       parses_top_kind : (attrs : List Attr) → Parses (these KindWords) St (λ d. grammar.TopKind B interface d attrs) (λ d. read.top_kind b interface d attrs)
       unfolding read.top_kind
-      parses_top_kind attrs = parses_alt {H = these (5 ∷ 6 ∷ 7 ∷ 8 ∷ 9 ∷ [])} refl refl refl refl (mark_test t.Func) (function attrs)
-          (chooses_alt {H = these (9 ∷ [])} refl refl refl refl nominal_test (λ w. parses_before any ended (parses_nominal attrs w))
+      parses_top_kind attrs = parses_alt {H = these (number_of t.Struct ∷ number_of t.Enum ∷ number_of t.Class ∷ number_of t.Protocol ∷ number_of t.Extension ∷ [])} refl refl refl refl (mark_test t.Func) (function attrs)
+          (chooses_alt {H = these (number_of t.Extension ∷ [])} refl refl refl refl nominal_test (λ w. parses_before any ended (parses_nominal attrs w))
           (chooses_alt {H = these []} refl refl refl refl (mark_test t.Extension) (λ p. parses_before any ended (parses_extension p)) (chooses_nothing ended)))
 
       begins_of_top : (d : ℕ) → Begins (λ u. begins_top_kind u ≡ true) (grammar.TopKind B interface d [])
@@ -152,16 +153,16 @@ module _ (B : ℕ → Bool → Rule Block) (b : ℕ → Bool → Reader Block) (
             ]
           ]
 
-      top_numbers : (u : Piece) → begins_top_kind u ≡ true → among (number_of u.terminal) Firsts ≡ true
+      top_numbers : (u : Piece) → begins_top_kind u ≡ true → among Firsts (number_of u.terminal) ≡ true
       top_numbers u is = elim (which (is_terminal t.Func u)) [
-        | inl here ↦ into (these (10 ∷ [])) (these Firsts) refl (Some u) (is_number t.Func u here)
+        | inl here ↦ into (these (number_of t.Func ∷ [])) (these Firsts) refl (Some u) (number_among t.Func u here)
         | inr elsewhere ↦ elim (which (is_some (nominal_word u))) [
-          | inl here ↦ let (w, takes) = is_nominal u here in into (these (5 ∷ 6 ∷ 7 ∷ 8 ∷ [])) (these Firsts) refl (Some u) (nominal_test.numbers u w takes)
+          | inl here ↦ let (w, takes) = is_nominal u here in into (these (number_of t.Struct ∷ number_of t.Enum ∷ number_of t.Class ∷ number_of t.Protocol ∷ [])) (these Firsts) refl (Some u) (nominal_test.numbers u w takes)
           | inr elsewhere' ↦ among_or true t.Extension u false refl (λ none. absurd (cc)) (or_rest (is_some (nominal_word u)) _ elsewhere' (or_rest (is_terminal t.Func u) _ elsewhere is))
         ]
       ]
 
-      parses_top : Parses (these (74 ∷ 100 ∷ Words ++ KindWords)) St (λ d. grammar.IsDeclaration B interface d) (λ d. read.top_declaration b interface d)
+      parses_top : Parses (these (number_of t.At ∷ the_end ∷ Words ++ KindWords)) St (λ d. grammar.IsDeclaration B interface d) (λ d. read.top_declaration b interface d)
       unfolding read.top_declaration
       parses_top = parses_declaration scope.TopLevel St (λ d. grammar.TopKind B interface d) (λ d. read.top_kind b interface d) begins_top_kind parses_top_kind begins_of_top takes_top top_numbers
 
@@ -173,12 +174,12 @@ module _ (B : ℕ → Bool → Rule Block) (b : ℕ → Bool → Reader Block) (
       unfolding begins_top read.top_declaration
       takes_top_declaration = takes_declaration scope.TopLevel St (λ d. grammar.TopKind B interface d) (λ d. read.top_kind b interface d) begins_top_kind parses_top_kind begins_of_top takes_top top_numbers
 
-      numbers_of_top : (u : Piece) → begins_top u ≡ true → among (number_of u.terminal) Firsts ≡ true
+      numbers_of_top : (u : Piece) → begins_top u ≡ true → among Firsts (number_of u.terminal) ≡ true
       unfolding begins_top
       numbers_of_top = numbers_of_declaration scope.TopLevel St (λ d. grammar.TopKind B interface d) (λ d. read.top_kind b interface d) begins_top_kind parses_top_kind begins_of_top takes_top top_numbers
 
   -- in a library or a client each function has a body
-  function_with_body : (attrs : List Attr) (p : Place) → Parses (these (0 ∷ [])) Anything (λ d. grammar.FunctionTail B false scope.TopLevel d attrs p) (λ d. read.rest_of_function b false scope.TopLevel d attrs p)
+  function_with_body : (attrs : List Attr) (p : Place) → Parses (these (number_of t.Identifier ∷ [])) Anything (λ d. grammar.FunctionTail B false scope.TopLevel d attrs p) (λ d. read.rest_of_function b false scope.TopLevel d attrs p)
   unfolding read.rest_of_function read.body
   function_with_body attrs p = parses_led refl refl refl identifier_test (λ n. parses_then refl (parses_header scope.TopLevel true) (λ h. parses_map (λ x. one_kind p (k.Function n h x)) (parses_map (λ x. Some x) (parses_block B b blocks false))))
 
@@ -187,7 +188,7 @@ module _ (B : ℕ → Bool → Rule Block) (b : ℕ → Bool → Reader Block) (
   EndsOf true = Ends
   EndsOf false = Anything
 
-  pub parses_top_declaration : (interface : Bool) → Parses (these (74 ∷ 100 ∷ Words ++ KindWords)) (EndsOf interface) (λ d. grammar.IsDeclaration B interface d) (λ d. read.top_declaration b interface d)
+  pub parses_top_declaration : (interface : Bool) → Parses (these (number_of t.At ∷ the_end ∷ Words ++ KindWords)) (EndsOf interface) (λ d. grammar.IsDeclaration B interface d) (λ d. read.top_declaration b interface d)
   parses_top_declaration true = parses_top true Ends refl refl (parses_function B b blocks true scope.TopLevel)
   parses_top_declaration false = parses_top false Anything refl refl function_with_body
 
@@ -199,7 +200,7 @@ module _ (B : ℕ → Bool → Rule Block) (b : ℕ → Bool → Reader Block) (
   takes_top_at true = takes_top_declaration true Ends refl refl (parses_function B b blocks true scope.TopLevel)
   takes_top_at false = takes_top_declaration false Anything refl refl function_with_body
 
-  pub numbers_of_top_at : (interface : Bool) (u : Piece) → begins_top u ≡ true → among (number_of u.terminal) Firsts ≡ true
+  pub numbers_of_top_at : (interface : Bool) (u : Piece) → begins_top u ≡ true → among Firsts (number_of u.terminal) ≡ true
   numbers_of_top_at true = numbers_of_top true Ends refl refl (parses_function B b blocks true scope.TopLevel)
   numbers_of_top_at false = numbers_of_top false Anything refl refl function_with_body
 

@@ -4,22 +4,18 @@ use Rattle.evo_combinators.specs.Laws.{GrammarOf}
 use Rattle.evo_tree.specs.declared.scope.Scope.{Scope}
 use Rattle.evo_tree.specs.declared.module.Form.{Form}
 use Rattle.evo_tree.specs.declared.module.Form.TheVariants as form
-use Rattle.evo_tree.specs.Declarations.{IsDeclaration, DeclarationOf, MemberKind}
+use Rattle.evo_tree.specs.Declarations.{DeclarationOf, MemberKind}
 use Rattle.evo_tree.specs.Modules.{Parts}
 use Rattle.evo_parse_expr.proofs.Nesting.{ReadsInner}
 use Rattle.evo_parse_stmt.specs.Read.{later}
-use Rattle.evo_parse_decl.specs.Read.{top_declaration}
 use Rattle.evo_parse_decl.specs.ReadModules.{parts}
 use Rattle.evo_parse_decl.specs.Closed.{BlockAt, StmtAt, block_at, stmt_at, member_at}
 use Rattle.evo_parse_decl.proofs.Concrete.{blocks}
-use Rattle.evo_parse_decl.proofs.Top.{nest_top, nest_in_braces}
+use Rattle.evo_parse_decl.proofs.Top.{nest_in_braces}
 use Rattle.evo_parse_decl.proofs.ModuleParts.{End, library_grammar, interface_grammar, nest_library, nest_interface}
 use Rattle.evo_parse_decl.proofs.ClientParts.{client_grammar, nest_client}
 
 -- ---- declarations
-
-pub nest_declaration : (interface : Bool) (d n : ℕ) → ReadsInner d n (IsDeclaration BlockAt interface d) (top_declaration block_at interface d)
-nest_declaration = nest_top BlockAt block_at blocks
 
 pub nest_member : (interface : Bool) (s : Scope) (d n : ℕ) → ReadsInner d n (DeclarationOf s d (MemberKind BlockAt interface s d)) (member_at interface s d)
 nest_member = nest_in_braces BlockAt block_at blocks

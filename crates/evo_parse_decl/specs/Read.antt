@@ -4,6 +4,7 @@ use Rattle.std.specs.Option.{is_some}
 use Rattle.evo_base.specs.declared.place.Place.{Place}
 use Rattle.evo_combinators.specs.Reader.{◌>>=◌, pure, refuse, alt, one}
 use Rattle.evo_combinators.specs.Guard.{choose, on, run}
+use Rattle.evo_tree.specs.declared.name.Identifier.{Identifier}
 use Rattle.evo_tree.specs.declared.name.TypeName.{TypeName}
 use Rattle.evo_tree.specs.declared.statement.Block.{Block}
 use Rattle.evo_tree.specs.declared.statement.Introducer.TheVariants as introducer
@@ -68,8 +69,12 @@ rest_of_associated p = do
   type ← default
   pure (one_kind p (k.AssociatedType n ps type))
 
+-- the brace behind accessors without bodies
+abbrev pub closed : Accessors → Reader Accessors
+closed x = one (mark t.CloseBrace) >>= (λ _. pure x)
+
 unfoldable pub rest_of_gets : Reader Accessors
-rest_of_gets = one (word (codes "get")) >>= (λ _. alt (word (codes "set")) (λ _. one (mark t.CloseBrace) >>= (λ _. pure accessors.GetSet)) (one (mark t.CloseBrace) >>= (λ _. pure accessors.Get)))
+rest_of_gets = one (word (codes "get")) >>= (λ _. alt (word (codes "set")) (λ _. closed accessors.GetSet) (closed accessors.Get))
 
 -- "{" "get" [ "set" ] "}"
 abbrev pub gets : ℕ → Reader Accessors
@@ -144,12 +149,15 @@ module _ (b : ℕ → Bool → Reader Block) where
   accessors_of d bodies may = on (is_terminal t.OpenBrace) (braces d bodies) (stored may)
 
   module _ (interface : Bool) (s : Scope) where
-    unfoldable pub rest_of_function : ℕ → List Attr → Place → Reader (Place × List DeclKind)
-    rest_of_function d attrs p = do
-      n ← one identifier
+    -- behind the name of a function
+    abbrev pub function_of : ℕ → List Attr → Place → Identifier → Reader (Place × List DeclKind)
+    function_of d attrs p n = do
       h ← header_of s d true
       x ← body d false (has_body interface s attrs)
       pure (one_kind p (k.Function n h x))
+
+    unfoldable pub rest_of_function : ℕ → List Attr → Place → Reader (Place × List DeclKind)
+    rest_of_function d attrs p = one identifier >>= (λ n. function_of d attrs p n)
 
     unfoldable pub rest_of_initialiser : ℕ → List Attr → Place → Reader (Place × List DeclKind)
     rest_of_initialiser d attrs p = do

@@ -74,7 +74,7 @@ pub(crate) fn all_declared(
     ensures { IfOk result (λ ds. ds ≡ map (grammar.declaration scope attrs.now modifiers.now kinds.0) kinds.1) }
 {
     let (place, kinds) = kinds;
-    let mut found = Vec::new(alloc);
+    let mut found = Vec::with_capacity(alloc, kinds.as_slice().len())?;
     for kind in kinds.into_vec() {
         found.push(declared(alloc, scope, attrs, modifiers, place, kind)?)?;
     }
@@ -85,7 +85,7 @@ pub(crate) fn all_declared(
 pub(crate) fn joined(alloc: Global, parts: List<List<Decl>>) -> Result<Items<Decl>, AllocError>
     ensures { IfOk result (λ ds. ds ≡ flat_map (λ d. d) parts) }
 {
-    let mut found = Vec::new(alloc);
+    let mut found = Vec::with_capacity(alloc, parts.as_slice().len())?;
     for part in parts.into_vec() {
         found.append(&mut part.into_vec())?;
     }

@@ -9,10 +9,12 @@ ghost use Rattle.evo_parse_decl.specs.Closed.{block_at};
 use crate::property::accessors;
 use evo_base::{List, Place};
 use evo_combinators::ReadError;
-use evo_parse_expr::{Cursor, type_name};
+use evo_parse_expr::{Cursor, discard, type_name};
 use evo_parse_header::{conforming, has_attribute, header, is_protocol, mark_if, rest_of_cases};
 use evo_parse_stmt::block;
-use evo_tree::{Accessors, Attr, AttrKind, Block, DeclKind, Introducer, Scope, Terminal, TypeName};
+use evo_tree::{
+    Accessors, Attr, AttrKind, Block, DeclKind, Identifier, Introducer, Scope, Terminal, TypeName,
+};
 use std::alloc::{AllocError, Global};
 
 /// Kinds of declarations, at the word that begins them.
@@ -147,6 +149,31 @@ fn body(
     Ok(None)
 }
 
+// A function behind its name.
+fn function_of(
+    alloc: Global,
+    tokens: &mut Cursor<'_>,
+    depth: u32,
+    interface: bool,
+    scope: Scope,
+    attrs: &[Attr],
+    place: Place,
+    name: Identifier,
+) -> Result<Kinds, ReadError>
+    ensures { Reads (spec.function_of block_at interface scope depth attrs.now place name tokens.old) result tokens.new }
+{
+    let header = header(alloc, tokens, depth, scope, true)?;
+    let has = has_body(interface, scope, attrs);
+    match body(alloc, tokens, depth, false, has) {
+        Ok(body) => Ok(one_kind(alloc, place, DeclKind::Function(name, header, body))?),
+        Err(error) => {
+            discard(name);
+            discard(header);
+            Err(error)
+        }
+    }
+}
+
 /// A function behind `func`.
 #[tactic(auto, unfolding(crate::specs::Read::rest_of_function))]
 pub(crate) fn rest_of_function(
@@ -161,15 +188,7 @@ pub(crate) fn rest_of_function(
     ensures { Reads (spec.rest_of_function block_at interface scope depth attrs.now place tokens.old) result tokens.new }
 {
     let name = tokens.expect_identifier(alloc)?;
-    let header = header(alloc, tokens, depth, scope, true)?;
-    let body = body(
-        alloc,
-        tokens,
-        depth,
-        false,
-        has_body(interface, scope, attrs),
-    )?;
-    Ok(one_kind(alloc, place, DeclKind::Function(name, header, body))?)
+    function_of(alloc, tokens, depth, interface, scope, attrs, place, name)
 }
 
 #[tactic(auto, unfolding(crate::specs::Read::rest_of_initialiser))]
@@ -185,14 +204,14 @@ fn rest_of_initialiser(
     ensures { Reads (spec.rest_of_initialiser block_at interface scope depth attrs.now place tokens.old) result tokens.new }
 {
     let header = header(alloc, tokens, depth, scope, false)?;
-    let body = body(
-        alloc,
-        tokens,
-        depth,
-        true,
-        has_body(interface, scope, attrs),
-    )?;
-    Ok(one_kind(alloc, place, DeclKind::Initialiser(header, body))?)
+    let has = has_body(interface, scope, attrs);
+    match body(alloc, tokens, depth, true, has) {
+        Ok(body) => Ok(one_kind(alloc, place, DeclKind::Initialiser(header, body))?),
+        Err(error) => {
+            discard(header);
+            Err(error)
+        }
+    }
 }
 
 #[tactic(auto, unfolding(crate::specs::Read::rest_of_var))]

@@ -8,8 +8,7 @@ ghost use Rattle.evo_parse_decl.specs.Closed.{block_at};
 
 use crate::block::inner_block;
 use evo_combinators::ReadError;
-use evo_parse_expr::{Cursor, Lexeme};
-use evo_parse_header::too_deep;
+use evo_parse_expr::{Cursor, Lexeme, too_deep};
 use evo_parse_stmt::block;
 use evo_tree::{Accessors, Block, Terminal};
 use std::alloc::Global;
@@ -40,17 +39,31 @@ fn begins_accessors(tokens: &Cursor<'_>) -> bool
     brace.is(Terminal::OpenBrace) && get.is_word(b"get") && goes_on_get(last)
 }
 
+// What stands behind `get set`.
+fn rest_of_set(tokens: &mut Cursor<'_>) -> Result<Accessors, ReadError>
+    ensures { Reads (spec.closed Accessors.GetSet tokens.old) result tokens.new }
+{
+    tokens.expect_mark(Terminal::CloseBrace)?;
+    Ok(Accessors::GetSet)
+}
+
+// What stands behind `get` alone.
+fn rest_of_get(tokens: &mut Cursor<'_>) -> Result<Accessors, ReadError>
+    ensures { Reads (spec.closed Accessors.Get tokens.old) result tokens.new }
+{
+    tokens.expect_mark(Terminal::CloseBrace)?;
+    Ok(Accessors::Get)
+}
+
 #[tactic(auto, unfolding(crate::specs::Read::rest_of_gets))]
 fn rest_of_gets(tokens: &mut Cursor<'_>) -> Result<Accessors, ReadError>
     ensures { Reads (spec.rest_of_gets tokens.old) result tokens.new }
 {
     tokens.expect_word(b"get")?;
     if let Some(_) = tokens.word(b"set") {
-        tokens.expect_mark(Terminal::CloseBrace)?;
-        return Ok(Accessors::GetSet);
+        return rest_of_set(tokens);
     }
-    tokens.expect_mark(Terminal::CloseBrace)?;
-    Ok(Accessors::Get)
+    rest_of_get(tokens)
 }
 
 #[tactic(auto, unfolding(crate::specs::Read::setter))]

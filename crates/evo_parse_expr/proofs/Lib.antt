@@ -6,3 +6,4 @@ pub mod ReadsRule
 pub mod Slices
 pub mod Tests
 pub mod Faulty
+pub mod Among

@@ -1,7 +1,7 @@
 -- With more nesting the reader gives the same, but where it met one nesting too many.
-use Rattle.std.proofs.Common.{◌≡◌, ℕ, zero, suc, ◌-◌, ◌^◌, Bool, true, false, List, [], ◌∷◌, Option, Some, None, refl}
+use Rattle.std.proofs.Common.{ℕ, zero, suc, ◌-◌, ◌^◌, true, false, [], ◌∷◌, Option, Some, None}
 use Rattle.evo_base.specs.declared.place.Place.{Place}
-use Rattle.evo_combinators.specs.Reader.{◌>>=◌, pure, refuse, alt, one, bar, many}
+use Rattle.evo_combinators.specs.Reader.{◌>>=◌, pure, refuse, one, many}
 use Rattle.evo_combinators.specs.Guard.{starts_two}
 use Rattle.evo_combinators.specs.Laws.{GrowsWithNesting, GrammarOf}
 use Rattle.evo_combinators.proofs.GrowsWithNesting.{same_refl, deeper_then, deeper_alt, deeper_bar, deeper_many}

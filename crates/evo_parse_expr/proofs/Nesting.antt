@@ -1,8 +1,8 @@
 -- Which tokens open a nesting, through the readers of expressions.
-use Rattle.std.proofs.Common.{◌≡◌, ℕ, zero, suc, ◌+◌, ◌-◌, ◌<◌, ◌≤◌, ◌^◌, Bool, true, false, List, [], ◌∷◌, ◌++◌, length, Option, Some, None, refl, sym, ◌∙◌, ap, subst, arith, ◌⊎◌, inl, inr}
+use Rattle.std.proofs.Common.{◌≡◌, ℕ, zero, suc, ◌-◌, ◌<◌, ◌^◌, true, false, List, [], ◌∷◌, Option, Some, None, refl, arith, inr}
 use Rattle.evo_base.specs.declared.place.Place.{Place}
 use Rattle.evo_combinators.specs.Rule.{Empty, Fail, TokenThen, Or, Then, Many, SomeOf}
-use Rattle.evo_combinators.specs.Reader.{◌>>=◌, pure, refuse, alt, one, many}
+use Rattle.evo_combinators.specs.Reader.{◌>>=◌, pure, refuse, one}
 use Rattle.evo_combinators.specs.Guard.{starts_two}
 use Rattle.evo_combinators.specs.Laws.{ReadsRule}
 use Rattle.evo_combinators.proofs.Laws.{right_map, to_map}
@@ -13,7 +13,6 @@ use Rattle.evo_tree.specs.declared.expression.InfixOperator.{InfixOperator}
 use Rattle.evo_tree.specs.declared.expression.PrefixOperator.{PrefixOperator}
 use Rattle.evo_tree.specs.declared.expression.Expr.{Expr}
 use Rattle.evo_tree.specs.declared.expression.Expr.TheVariants as e
-use Rattle.evo_tree.specs.declared.terminal.Terminal.{Terminal}
 use Rattle.evo_tree.specs.declared.terminal.Terminal.TheVariants as t
 use Rattle.evo_tree.specs.Pieces.{Piece, is_terminal, is_identifier, mark, identifier, integer, string, negative, sign, call, opens_nesting}
 use Rattle.evo_tree.specs.Expressions.{Rule, Nested, infix_by, multiplying, adding, comparing, conjoining, disjoining, chain, members, one_operand, Chain, Pair, Levels, Argument, ListedArguments, ArgumentsTail, Arguments, Call, Member, GroupTail, SuperTail, Magnitude, Primary, Links, Postfix, UnaryOf, Unary, IsExpr}

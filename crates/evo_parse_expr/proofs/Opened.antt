@@ -1,6 +1,6 @@
 -- The readers of one nesting, as the code has them.
 use Rattle.std.proofs.Common.{◌≡◌, ℕ, zero, suc, Bool, true, false, refl, ap}
-use Rattle.evo_parse_expr.specs.Read.{expr, unary, levels}
+use Rattle.evo_parse_expr.specs.Read.{unary, levels}
 use Rattle.evo_parse_expr.specs.AtDepth.{unary_at, disjunction_level}
 use Rattle.evo_parse_expr.specs.ReadsInner.{expr_of}
 

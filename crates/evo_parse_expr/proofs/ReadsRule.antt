@@ -1,15 +1,14 @@
 -- The readers of types and expressions read the grammar's rules.
-use Rattle.std.proofs.Common.{◌≡◌, ℕ, zero, suc, ◌+◌, ◌-◌, ◌<◌, ◌≤◌, ◌^◌, Bool, true, false, List, [], ◌∷◌, ◌++◌, length, Option, Some, None, refl, sym, ◌∙◌, ap, subst, arith, ◌⊎◌, inl, inr, append-nil}
+use Rattle.std.proofs.Common.{◌≡◌, ℕ, zero, suc, ◌+◌, ◌-◌, ◌<◌, ◌^◌, true, false, List, [], ◌∷◌, ◌++◌, Option, Some, None, refl, sym, ap, subst, arith, inl, inr, append-nil}
 use Rattle.evo_base.specs.declared.place.Place.{Place}
 use Rattle.evo_lex.specs.Front.{when}
-use Rattle.evo_combinators.specs.Rule.{Empty, Fail, TokenThen, One, Or, Then, Many, IsViablePrefix, SomeOf}
+use Rattle.evo_combinators.specs.Rule.{Empty, Fail, TokenThen, One, Or, Then, Many, SomeOf}
 use Rattle.evo_combinators.specs.Reader.{◌>>=◌, pure, refuse, alt, one, bar, many}
 use Rattle.evo_combinators.specs.Laws.{first, Skips, ReadsRule, Begins, of_first}
 use Rattle.evo_combinators.proofs.Laws.{right_pure, right_nothing, right_then, right_alt, right_alt_by, right_bar, right_same, right_stop, right_many, right_map, right_one, of_map, to_map, many_first, begins_then, begins_led, begins_or, begins_nothing, begins_as, begins_skips, stop_skips}
 use Rattle.evo_combinators.proofs.Sequences.{right_led, right_led_by, some_only, some_led, some_then}
-use Rattle.evo_combinators.proofs.Labels.{Label, AfterLabel, label_of, right_label, some_label}
+use Rattle.evo_combinators.proofs.Labels.{right_label}
 use Rattle.evo_tree.specs.declared.name.Identifier.{Identifier}
-use Rattle.evo_tree.specs.declared.name.TypeName.{TypeName}
 use Rattle.evo_tree.specs.declared.expression.InfixOperator.{InfixOperator}
 use Rattle.evo_tree.specs.declared.expression.PrefixOperator.{PrefixOperator}
 use Rattle.evo_tree.specs.declared.expression.Expr.{Expr}
@@ -21,14 +20,11 @@ use Rattle.evo_tree.specs.Pieces.{Piece, is_terminal, is_identifier, mark, ident
 use Rattle.evo_tree.specs.Types.{type_head, plain_name, type_name, IsType}
 use Rattle.evo_tree.specs.Expressions.{Rule, Nested, infix_by, multiplying, adding, comparing, conjoining, disjoining, chain, members, one_operand, Chain, Pair, Levels, Argument, ListedArguments, ArgumentsTail, Arguments, Call, Member, GroupTail, SuperTail, Magnitude, Primary, Links, Postfix, UnaryOf, Unary, IsExpr}
 use Rattle.evo_parse_expr.specs.Read.{Reader, opens, type_of, chain_of, pair_of, levels, labelled, argument, listed_arguments, closed_arguments, rest_of_arguments, arguments, called, member, rest_of_group, rest_of_super, magnitude, named, implicit, later_primary, primary, links, post, unary_of, unary, expr}
-use Rattle.evo_parse_expr.proofs.Tests.{is_same, mark_is, mark_number, mark_takes, identifier_is, identifier_takes, identifier_number, integer_number, string_number, negative_number, call_rank, dot_rank, comma_rank, call_takes, an_integer, some_integer, closing_rank, colon_rank, multiplication_rank, addition_rank, comparison_rank, conjunction_rank, disjunction_rank, rank, rank_of, Stop, a_piece, piece_is, some_identifier, not_terminal, opens_expr, Opens, First, first_opens, first_unsigned, sign_opens, opens_not, first_mark, first_identifier, first_integer, first_string, first_negative}
+use Rattle.evo_parse_expr.proofs.Tests.{mark_is, mark_number, mark_takes, identifier_is, identifier_takes, identifier_number, integer_number, string_number, negative_number, call_rank, dot_rank, comma_rank, call_takes, an_integer, some_integer, closing_rank, colon_rank, multiplication_rank, addition_rank, comparison_rank, conjunction_rank, disjunction_rank, rank, Stop, a_piece, piece_is, some_identifier, not_terminal, Opens, First, first_opens, first_unsigned, sign_opens, opens_not, first_mark, first_identifier, first_integer, first_string, first_negative}
 
 -- anything may follow
 abbrev pub Anything : Option Piece → Type 0
 Anything x = Unit {0}
-
-pub some_mark : (k : Terminal) → SomeOf (One (mark k))
-some_mark k = let (p, takes) = mark_takes k (a_piece k) (piece_is k) in (a_piece k ∷ [], p, (a_piece k, p, [], refl, takes, (refl, refl)))
 
 pub some_behind : {B : Type 0} (k : Terminal) (S : Place → Rule B) → ((p : Place) → SomeOf (S p)) → SomeOf (TokenThen (mark k) S)
 some_behind k S some = let (p, takes) = mark_takes k (a_piece k) (piece_is k) in some_led (mark k) S (a_piece k) p takes (some p)
@@ -278,9 +274,6 @@ module _ (d : ℕ) (I O : Rule Expr) where
 
   pub some_argument : SomeOf I → SomeOf (Argument d I O)
   some_argument (us, x, s) = (us, (None, x), inr (x, us, [], sym (append-nil us), s, (refl, refl)))
-
-  pub some_listed : SomeOf I → SomeOf (ListedArguments d I O)
-  some_listed some = some_then (Argument d I O) _ (some_argument some) (λ a. ([], a ∷ [], to_map Further (λ as'. a ∷ as') [] [] refl))
 
   pub some_rest : SomeOf (ArgumentsTail d I O)
   some_rest = let (us, as', s) = some_behind {B = List Arg} t.CloseParenthesis (λ _. Empty []) (λ _. some_only []) in (us, as', inl s)

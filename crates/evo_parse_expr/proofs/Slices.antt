@@ -2,7 +2,7 @@
 use Rattle.std.proofs.Common.{◌≡◌, ℕ, zero, suc, ◌≤◌, List, [], ◌∷◌, length, drop, Option, Some, None, refl, ◌∙◌, ap, arith}
 use Rattle.evo_base.specs.declared.token.Token.{Token}
 use Rattle.evo_combinators.specs.Laws.{first}
-use Rattle.evo_tree.specs.Pieces.{Piece, pieces_from, pieces, token_before}
+use Rattle.evo_tree.specs.Pieces.{pieces_from, pieces, token_before}
 
 pub length_pieces : (text : List ℕ) (before : Option Token) (us : List Token) → length (pieces_from text before us) ≡ length us
 length_pieces text before [] = refl

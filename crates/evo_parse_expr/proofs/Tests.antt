@@ -1,24 +1,22 @@
 -- What the tests of tokens take, and how loosely a token binds to what stands before it.
-use Rattle.std.proofs.Common.{◌≡◌, ℕ, zero, suc, ◌+◌, ◌-◌, ◌<◌, ◌≤◌, ◌^◌, Bool, true, false, List, [], ◌∷◌, Option, Some, None, refl, sym, ◌∙◌, ap, subst, arith, inl, inr, ◌⊎◌, get_or}
+use Rattle.std.proofs.Common.{◌≡◌, ℕ, zero, suc, ◌-◌, ◌<◌, ◌^◌, Bool, true, false, List, [], ◌∷◌, Option, Some, None, refl, sym, ◌∙◌, ap, arith, inl, inr, ◌⊎◌, get_or}
 use Rattle.std.specs.Prelude.{◌||◌, ◌&&◌, ◌==◌, not, nat_le, is_some, codes, cond}
 use Rattle.std.specs.Str.{bytes_eq, IsAscii, is_utf8}
-use Rattle.std.proofs.lemmas.Slice.Eq.{bytes_eq-Decides}
+use Rattle.std.proofs.lemmas.Bool.{or_left, or_right, or_cases}
 use Rattle.std.proofs.lemmas.Bool.Decides.{Decides-eqb}
 use Rattle.std.proofs.lemmas.Str.{IsUtf8-from_ascii, is_utf8-from_IsUtf8}
 use Rattle.evo_base.specs.declared.place.Place.{Place}
 use Rattle.evo_lex.specs.Front.{when, integer_value}
 use Rattle.evo_lex.specs.Strings.{string_value}
-use Rattle.evo_combinators.specs.Laws.{first}
 use Rattle.evo_tree.specs.declared.name.Identifier.{Identifier}
 use Rattle.evo_tree.specs.declared.expression.InfixOperator.{InfixOperator}
 use Rattle.evo_tree.specs.declared.expression.PrefixOperator.{PrefixOperator}
 use Rattle.evo_tree.specs.declared.terminal.Terminal.{Terminal}
 use Rattle.evo_tree.specs.declared.terminal.Terminal.TheVariants as t
-use Rattle.evo_tree.specs.declared.terminal.Role.{Role}
 use Rattle.evo_tree.specs.declared.terminal.Role.TheVariants as role
 use Rattle.evo_tree.specs.Terminals.{number_of}
 use Rattle.evo_tree.specs.Pieces.{Piece, is_terminal, is_identifier, has_role, role_number, placed, sign_of, mark, identifier, word, is_word, integer, string, negative, sign, call, opens_nesting}
-use Rattle.evo_tree.specs.Types.{type_head, plain_name}
+use Rattle.evo_tree.specs.Types.{plain_name}
 use Rattle.evo_tree.specs.Expressions.{infix_by, multiplying, adding, comparing, conjoining, disjoining}
 
 pub when_some : {A : Type 0} (b : Bool) (a x : A) → when b a ≡ Some x → (b ≡ true) × (a ≡ x)
@@ -38,8 +36,7 @@ both_and true b e e' = e'
 both_and false b e e' = absurd cc
 
 pub or_either : (a b : Bool) → (a || b) ≡ true → (a ≡ true) ⊎ (b ≡ true)
-or_either true b e = inl refl
-or_either false b e = inr e
+or_either = or_cases
 
 -- ---- terminals have numbers of their own
 
@@ -175,10 +172,6 @@ plain_name_number p a e = is_identifier_number p (when_some (is_identifier p) p.
 pub word_number : (w : List ℕ) (p : Piece) (a : Place) → word w p ≡ Some a → number_of p.terminal ≡ 0
 unfolding word
 word_number w p a e = is_number t.Identifier p (and_both (is_terminal t.Identifier p) (bytes_eq p.text w) (when_some (is_word w p) p.place a e).0).0
-
-pub word_text : (w : List ℕ) (p : Piece) (a : Place) → word w p ≡ Some a → p.text ≡ w
-unfolding word
-word_text w p a e = (bytes_eq-Decides p.text w).0 (and_both (is_terminal t.Identifier p) (bytes_eq p.text w) (when_some (is_word w p) p.place a e).0).1
 
 pub integer_number : (most : ℕ) (p : Piece) (a : Place × ℕ) → integer most p ≡ Some a → number_of p.terminal ≡ 2
 unfolding integer
@@ -486,8 +479,8 @@ is_some_some None e = absurd cc
 
 -- the parenthesis, the brace, or a sign, which has a role of its own
 pub opening_is : (p : Piece) → opens_nesting p ≡ true → (number_of p.terminal ≡ 66) ⊎ ((number_of p.terminal ≡ 68) ⊎ ((role_number p.role ≡ 1) × ((number_of p.terminal ≡ 40) ⊎ (number_of p.terminal ≡ 57))))
-opening_is p is = elim (or_either (is_terminal t.OpenParenthesis p || is_terminal t.OpenBrace p) (is_some (sign p)) is) [
-  | inl bracket ↦ elim (or_either (is_terminal t.OpenParenthesis p) (is_terminal t.OpenBrace p) bracket) [
+opening_is p is = elim (or_cases (is_terminal t.OpenParenthesis p || is_terminal t.OpenBrace p) (is_some (sign p)) is) [
+  | inl bracket ↦ elim (or_cases (is_terminal t.OpenParenthesis p) (is_terminal t.OpenBrace p) bracket) [
     | inl h ↦ inl (is_number t.OpenParenthesis p h)
     | inr h ↦ inr (inl (is_number t.OpenBrace p h))
   ]
@@ -553,14 +546,6 @@ negative_quiet p a e is = elim (opening_is p is) [
     | inr g ↦ omega (arith, g.0, negative_role p a e)
   ]
 ]
-
-or_left : (a b : Bool) → a ≡ true → (a || b) ≡ true
-or_left true b e = refl
-or_left false b e = absurd cc
-
-or_right : (a b : Bool) → b ≡ true → (a || b) ≡ true
-or_right true b e = refl
-or_right false b e = e
 
 pub parenthesis_opens : (p : Piece) (a : Place) → mark t.OpenParenthesis p ≡ Some a → opens_nesting p ≡ true
 parenthesis_opens p a e = or_left (is_terminal t.OpenParenthesis p || is_terminal t.OpenBrace p) (is_some (sign p)) (or_left (is_terminal t.OpenParenthesis p) (is_terminal t.OpenBrace p) (mark_is t.OpenParenthesis p a e))

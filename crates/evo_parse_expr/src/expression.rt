@@ -1,8 +1,8 @@
 //! Reads expressions, by their levels.
 
-ghost use Rattle.std.specs.Prelude.{◌≡◌, ◌<◌, ◌∷◌, ℕ, List, length, IfOk};
+ghost use Rattle.std.specs.Prelude.{◌≡◌, ◌<◌, ◌∷◌, [], ℕ, List, length, IfOk};
 ghost use Rattle.evo_combinators.specs.Reader.{Reads, many};
-ghost use Rattle.evo_tree.specs.Expressions.{chain, members};
+ghost use Rattle.evo_tree.specs.Expressions.{chain, members, one_operand};
 ghost use Rattle.evo_tree.specs.Pieces.{mark};
 ghost use Rattle.evo_tree.specs.declared.terminal.Terminal.TheVariants.{Comma, Dot};
 ghost use Rattle.evo_parse_expr.specs.Read.{chain_of};
@@ -11,11 +11,20 @@ ghost use Rattle.evo_parse_expr.specs.ReadsInner.{ReadsInner, expr_of};
 
 use crate::cursor::Cursor;
 use crate::lexeme::Level;
+use crate::refusal::{discard, too_deep};
 use evo_base::Place;
-use evo_combinators::{Fault, ReadError};
-use evo_tree::{Argument, Expr, Identifier, Member, Operand, Terminal};
+use evo_combinators::ReadError;
+use evo_tree::{Argument, Expr, Identifier, InfixOperator, Member, Operand, Terminal};
 use sqlite_items::{Boxed, Items};
 use std::alloc::{AllocError, Global};
+
+fn alone<T: Drop>(alloc: Global, item: T) -> Result<Items<T>, AllocError>
+    ensures { IfOk result (λ all. all ≡ item ∷ []) }
+{
+    let mut all = Items::new(alloc);
+    all.push(item)?;
+    Ok(all)
+}
 
 fn chained(alloc: Global, first: Expr, rest: Items<Operand>) -> Result<Expr, AllocError>
     ensures { IfOk result (λ x. x ≡ chain first rest) }
@@ -24,6 +33,24 @@ fn chained(alloc: Global, first: Expr, rest: Items<Operand>) -> Result<Expr, All
         Ok(first)
     } else {
         Ok(Expr::Chain(Boxed::new(alloc, first)?, rest))
+    }
+}
+
+// The chain of two operands.
+fn paired(
+    alloc: Global,
+    first: Expr,
+    operator: InfixOperator,
+    operand: Expr,
+) -> Result<Expr, AllocError>
+    ensures { IfOk result (λ x. x ≡ chain first (one_operand operator operand)) }
+{
+    match alone(alloc, (operator, operand)) {
+        Ok(rest) => chained(alloc, first, rest),
+        Err(error) => {
+            discard(first);
+            Err(error)
+        }
     }
 }
 
@@ -48,13 +75,6 @@ fn listed(
     all.push(first)?;
     all.append(more)?;
     Ok(all)
-}
-
-// The fault that the token before these opens one nesting too many.
-fn too_deep(left: usize) -> ReadError
-    ensures { result ≡ ReadError.Fault (Fault.Deep left) }
-{
-    ReadError::Fault(Fault::Deep(left))
 }
 
 /// The rules of one nesting. They take the reader of the next as a parameter, so that each is proved by itself.
@@ -205,8 +225,13 @@ impl<F: Fn(Global, &mut Cursor<'_>, u32, bool) -> Result<Expr, ReadError>> Gramm
         ensures { Reads (spec.rest_of_group_at self.now.depth place tokens.old) result tokens.new }
     {
         let inner = self.inner(tokens)?;
-        tokens.expect_mark(Terminal::CloseParenthesis)?;
-        Ok(Expr::Parenthesised(place, Boxed::new(self.alloc, inner)?))
+        match tokens.expect_mark(Terminal::CloseParenthesis) {
+            Ok(_) => Ok(Expr::Parenthesised(place, Boxed::new(self.alloc, inner)?)),
+            Err(error) => {
+                discard(inner);
+                Err(error)
+            }
+        }
     }
 
     #[tactic(auto, unfolding(crate::specs::Read::rest_of_super))]
@@ -318,8 +343,13 @@ impl<F: Fn(Global, &mut Cursor<'_>, u32, bool) -> Result<Expr, ReadError>> Gramm
         requires { ReadsInner self.now.depth (F.pre self.now.expr) (F.post self.now.expr) }
         ensures { Reads (spec.links_at self.now.depth first tokens.old) result tokens.new }
     {
-        let members = self.dotted(tokens)?;
-        Ok(with_members(self.alloc, first, members)?)
+        match self.dotted(tokens) {
+            Ok(members) => Ok(with_members(self.alloc, first, members)?),
+            Err(error) => {
+                discard(first);
+                Err(error)
+            }
+        }
     }
 
     #[tactic(auto, unfolding(crate::specs::Read::post))]
@@ -384,8 +414,13 @@ impl<F: Fn(Global, &mut Cursor<'_>, u32, bool) -> Result<Expr, ReadError>> Gramm
         ensures { Reads (chain_of (spec.infix_of level) (spec.operands_of (spec.unary_at self.now.depth) level) tokens.old) result tokens.new }
     {
         let first = self.operand(tokens, level)?;
-        let rest = self.turns(tokens, level)?;
-        Ok(chained(self.alloc, first, rest)?)
+        match self.turns(tokens, level) {
+            Ok(rest) => Ok(chained(self.alloc, first, rest)?),
+            Err(error) => {
+                discard(first);
+                Err(error)
+            }
+        }
     }
 
     #[cycle(levels)]
@@ -398,10 +433,13 @@ impl<F: Fn(Global, &mut Cursor<'_>, u32, bool) -> Result<Expr, ReadError>> Gramm
         let Some(operator) = tokens.infix(Level::Comparison) else {
             return Ok(first);
         };
-        let operand = self.operand(tokens, Level::Comparison)?;
-        let mut rest = Items::new(self.alloc);
-        rest.push((operator, operand))?;
-        Ok(Expr::Chain(Boxed::new(self.alloc, first)?, rest))
+        match self.operand(tokens, Level::Comparison) {
+            Ok(operand) => Ok(paired(self.alloc, first, operator, operand)?),
+            Err(error) => {
+                discard(first);
+                Err(error)
+            }
+        }
     }
 
     #[cycle(levels)]

@@ -26,35 +26,36 @@ use Rattle.evo_combinators.proofs.Nesting.{nest_pure, nest_refuse, nest_by, nest
 use Rattle.evo_combinators.proofs.NestingTries.{nest_made}
 use Rattle.evo_combinators.proofs.NestingRuns.{nest_held, nest_ext, nest_one, nest_run}
 use Rattle.evo_parse_header.specs.Read.{separated}
-use Rattle.evo_parse_header.proofs.Sets.{Set, these, In, among, contains, included, none_in, none_holds, into, included_refl}
+use Rattle.evo_parse_expr.proofs.Among.{among}
+use Rattle.evo_parse_header.proofs.Sets.{Set, these, In, contains, included, none_in, none_holds, into, included_refl, the_end}
 
 -- a test takes only tokens of these terminals, and one at least
 pub record Test {A : Type 0} (ns : List ℕ) (f : Piece → Option A) : Type 0 where
-  pub numbers : (u : Piece) (a : A) → f u ≡ Some a → among (number_of u.terminal) ns ≡ true
+  pub numbers : (u : Piece) (a : A) → f u ≡ Some a → among ns (number_of u.terminal) ≡ true
   pub piece : Piece
   pub value : A
   pub taken : f piece ≡ Some value
 
 -- what opens a nesting: the signs, the parenthesis and the brace; and the last two alone, which always do
 abbrev pub Opening : Set
-Opening = these (40 ∷ 57 ∷ 66 ∷ 68 ∷ [])
+Opening = these (number_of t.Minus ∷ number_of t.Not ∷ number_of t.OpenParenthesis ∷ number_of t.OpenBrace ∷ [])
 
 abbrev pub Brackets : Set
-Brackets = these (66 ∷ 68 ∷ [])
+Brackets = these (number_of t.OpenParenthesis ∷ number_of t.OpenBrace ∷ [])
 
-opening_among : {R : Type 0} (n : ℕ) → (n ≡ 66) ⊎ ((n ≡ 68) ⊎ (R × ((n ≡ 40) ⊎ (n ≡ 57)))) → contains Opening n ≡ true
+opening_among : {R : Type 0} (n : ℕ) → (n ≡ number_of t.OpenParenthesis) ⊎ ((n ≡ number_of t.OpenBrace) ⊎ (R × ((n ≡ number_of t.Minus) ⊎ (n ≡ number_of t.Not)))) → contains Opening n ≡ true
 opening_among n (inl e) = ap (λ k. contains Opening k) e
 opening_among n (inr (inl e)) = ap (λ k. contains Opening k) e
 opening_among n (inr (inr (role, inl e))) = ap (λ k. contains Opening k) e
 opening_among n (inr (inr (role, inr e))) = ap (λ k. contains Opening k) e
 
 -- tokens of other terminals open nothing
-pub quiet : {A : Type 0} (ns : List ℕ) (f : Piece → Option A) → none_in Opening ns ≡ true → ((u : Piece) (a : A) → f u ≡ Some a → among (number_of u.terminal) ns ≡ true) →
+pub quiet : {A : Type 0} (ns : List ℕ) (f : Piece → Option A) → none_in Opening ns ≡ true → ((u : Piece) (a : A) → f u ≡ Some a → among ns (number_of u.terminal) ≡ true) →
     (u : Piece) (a : A) → f u ≡ Some a → opens_nesting u ≡ true → ⊥
 quiet ns f calm numbers u a takes is = none_holds Opening (number_of u.terminal) ns calm (numbers u a takes) (opening_among (number_of u.terminal) (opening_is u is))
 
 -- and brackets open a nesting
-pub opening : {A : Type 0} (ns : List ℕ) (f : Piece → Option A) → included (these ns) Brackets ≡ true → ((u : Piece) (a : A) → f u ≡ Some a → among (number_of u.terminal) ns ≡ true) →
+pub opening : {A : Type 0} (ns : List ℕ) (f : Piece → Option A) → included (these ns) Brackets ≡ true → ((u : Piece) (a : A) → f u ≡ Some a → among ns (number_of u.terminal) ≡ true) →
     (u : Piece) (a : A) → f u ≡ Some a → opens_nesting u ≡ true
 opening ns f brackets numbers u a takes = either (is_terminal t.OpenParenthesis u) (is_terminal t.OpenBrace u) (is_some (sign u)) (into (these ns) Brackets brackets (Some u) (numbers u a takes))
   where
@@ -84,7 +85,7 @@ pub record Parses {A : Type 0} (F St : Set) (S : ℕ → Rule A) (p : ℕ → Re
 front_of_nil : {A : Type 0} (St : Set) (a b : A) (us rest : List Piece) → Empty a us b → In St (first rest) → In St (first (us ++ rest))
 front_of_nil St a b us rest s stop = subst (λ x. In St (first (x ++ rest))) (sym s.0) stop
 
-pub parses_pure : {A : Type 0} {St : Set} → contains St 100 ≡ true → (a : A) → Parses St St (λ _. Empty a) (λ _. pure a)
+pub parses_pure : {A : Type 0} {St : Set} → contains St the_end ≡ true → (a : A) → Parses St St (λ _. Empty a) (λ _. pure a)
 parses_pure {A} {St} ended a = record {
   chooses = record {
     right = λ d n. right_pure n (In St) ended a;
@@ -95,7 +96,7 @@ parses_pure {A} {St} ended a = record {
   some = λ d. some_only a;
 }
 
-pub chooses_nothing : {A : Type 0} {F St : Set} → contains St 100 ≡ true → Chooses {A = A} F St (λ _. Fail) (λ _. refuse)
+pub chooses_nothing : {A : Type 0} {F St : Set} → contains St the_end ≡ true → Chooses {A = A} F St (λ _. Fail) (λ _. refuse)
 chooses_nothing {A} {F} {St} ended = record {
   right = λ d n. right_nothing n (In St) ended;
   deeper = λ d. same_refl refuse;
@@ -104,7 +105,7 @@ chooses_nothing {A} {F} {St} ended = record {
 }
 
 -- weaker sets
-pub chooses_as : {A : Type 0} {F F' St St' : Set} {S : ℕ → Rule A} {p : ℕ → Reader A} → included F F' ≡ true → included St' St ≡ true → contains St' 100 ≡ true →
+pub chooses_as : {A : Type 0} {F F' St St' : Set} {S : ℕ → Rule A} {p : ℕ → Reader A} → included F F' ≡ true → included St' St ≡ true → contains St' the_end ≡ true →
     Chooses F St S p → Chooses F' St' S p
 chooses_as {A} {F} {F'} {St} {St'} {S} {p} wide narrow ended fits = record {
   right = λ d n. right_stop n (In St) (In St') (S d) (S (suc d)) (p d) (λ x h. into St' St narrow x h) ended (fits.right d n);
@@ -113,12 +114,12 @@ chooses_as {A} {F} {F'} {St} {St'} {S} {p} wide narrow ended fits = record {
   nest = fits.nest;
 }
 
-pub parses_as : {A : Type 0} {F F' St St' : Set} {S : ℕ → Rule A} {p : ℕ → Reader A} → included F F' ≡ true → included St' St ≡ true → contains St' 100 ≡ true →
+pub parses_as : {A : Type 0} {F F' St St' : Set} {S : ℕ → Rule A} {p : ℕ → Reader A} → included F F' ≡ true → included St' St ≡ true → contains St' the_end ≡ true →
     Parses F St S p → Parses F' St' S p
 parses_as wide narrow ended fits = record { chooses = chooses_as wide narrow ended fits.chooses; some = fits.some }
 
 -- where less may follow
-pub parses_before : {A : Type 0} {F St St' : Set} {S : ℕ → Rule A} {p : ℕ → Reader A} → included St' St ≡ true → contains St' 100 ≡ true → Parses F St S p → Parses F St' S p
+pub parses_before : {A : Type 0} {F St St' : Set} {S : ℕ → Rule A} {p : ℕ → Reader A} → included St' St ≡ true → contains St' the_end ≡ true → Parses F St S p → Parses F St' S p
 parses_before {A} {F} narrow ended fits = parses_as (included_refl F) narrow ended fits
 
 -- one after the other
@@ -192,7 +193,7 @@ no_nothing S us b (inl s) = s
 no_nothing S us b (inr none) = absurd none
 
 module _ {A B : Type 0} {ns : List ℕ} {F G St : Set} {S : ℕ → A → Rule B} {q : ℕ → A → Reader B} {f : Piece → Option A}
-    (calm : none_in Opening ns ≡ true) (begun : included (these ns) F ≡ true) (ended : contains St 100 ≡ true) (test : Test ns f) (fits : (a : A) → Parses G St (λ d. S d a) (λ d. q d a)) where
+    (calm : none_in Opening ns ≡ true) (begun : included (these ns) F ≡ true) (ended : contains St the_end ≡ true) (test : Test ns f) (fits : (a : A) → Parses G St (λ d. S d a) (λ d. q d a)) where
   pub parses_led : Parses F St (λ d. TokenThen f (S d)) (λ d. one f >>= q d)
   parses_led = record {
     chooses = record {
@@ -207,7 +208,7 @@ module _ {A B : Type 0} {ns : List ℕ} {F G St : Set} {S : ℕ → A → Rule B
     some = λ d. some_led f (S (suc d)) test.piece test.value test.taken ((fits test.value).some d);
   }
 
-pub parses_one : {A : Type 0} {ns : List ℕ} {F St : Set} {f : Piece → Option A} → none_in Opening ns ≡ true → included (these ns) F ≡ true → contains St 100 ≡ true → Test ns f →
+pub parses_one : {A : Type 0} {ns : List ℕ} {F St : Set} {f : Piece → Option A} → none_in Opening ns ≡ true → included (these ns) F ≡ true → contains St the_end ≡ true → Test ns f →
     Parses F St (λ _. One f) (λ _. one f)
 parses_one {A} {ns} {F} {St} {f} calm begun ended test = record {
   chooses = record {
@@ -265,7 +266,7 @@ parses_opens {A} {B} {ns} {F} {H} {G} {St} {S} {R} {q} {r} {f} brackets apart be
 
 -- any number, each behind a token
 module _ {A B : Type 0} (ns : List ℕ) (F G H St : Set) (S : ℕ → A → Rule B) (q : ℕ → A → Reader B) (f : Piece → Option A)
-    (calm : none_in Opening ns ≡ true) (apart : none_in St ns ≡ true) (begun : included (these ns) F ≡ true) (wide : included St F ≡ true) (goes_on : included F H ≡ true) (ended : contains St 100 ≡ true) (test : Test ns f)
+    (calm : none_in Opening ns ≡ true) (apart : none_in St ns ≡ true) (begun : included (these ns) F ≡ true) (wide : included St F ≡ true) (goes_on : included F H ≡ true) (ended : contains St the_end ≡ true) (test : Test ns f)
     (least : (d : ℕ) (a : A) → SomeOf (S d a)) (fits : (a : A) → Parses G H (λ d. S d a) (λ d. q d a)) where
   ends : (x : Option Piece) → In St x → In H x
   ends x h = into F H goes_on x (into St F wide x h)
@@ -293,7 +294,7 @@ module _ {A B : Type 0} (ns : List ℕ) (F G H St : Set) (S : ℕ → A → Rule
   }
 
 pub parses_many : {A B : Type 0} {ns : List ℕ} {F G H St : Set} {S : ℕ → A → Rule B} {q : ℕ → A → Reader B} {f : Piece → Option A} →
-    none_in Opening ns ≡ true → none_in St ns ≡ true → included (these ns) F ≡ true → included St F ≡ true → included F H ≡ true → contains St 100 ≡ true → Test ns f →
+    none_in Opening ns ≡ true → none_in St ns ≡ true → included (these ns) F ≡ true → included St F ≡ true → included F H ≡ true → contains St the_end ≡ true → Test ns f →
     ((d : ℕ) (a : A) → SomeOf (S d a)) → ((a : A) → Parses G H (λ d. S d a) (λ d. q d a)) → Parses F St (λ d. Many f (S d)) (λ d. many f (q d))
 parses_many {A} {B} {ns} {F} {G} {H} {St} {S} {q} {f} calm apart begun wide goes_on ended test least fits = many_parses ns F G H St S q f calm apart begun wide goes_on ended test least fits
 
@@ -341,7 +342,7 @@ parses_maybe {A} {F} {St} {S} {p} {a} fits = record { chooses = fits; some = λ 
 
 -- one, and more behind a mark
 pub parses_separated : {A : Type 0} {F H St : Set} {S : ℕ → Rule A} {p : ℕ → Reader A} (k : Terminal) → none_in Opening (number_of k ∷ []) ≡ true → none_in St (number_of k ∷ []) ≡ true → included (these (number_of k ∷ [])) H ≡ true →
-    included St H ≡ true → contains St 100 ≡ true → Test (number_of k ∷ []) (mark k) → ((d : ℕ) → SomeOf (S d)) → Parses F H S p → Parses F St (λ d. Separated k (S d)) (λ d. separated k (p d))
+    included St H ≡ true → contains St the_end ≡ true → Test (number_of k ∷ []) (mark k) → ((d : ℕ) → SomeOf (S d)) → Parses F H S p → Parses F St (λ d. Separated k (S d)) (λ d. separated k (p d))
 unfolding separated
 parses_separated {A} {F} {H} {St} {S} {p} k calm apart begun wide ended test least fits =
     parses_then (included_refl H) fits (λ x. parses_map (λ xs. x ∷ xs) (many_parses (number_of k ∷ []) H F H St (λ d _. S d) (λ d _. p d) (mark k) calm apart begun wide (included_refl H) ended test (λ d _. least d) (λ _. fits)))
@@ -361,8 +362,8 @@ parses_same {A} {F} {St} {S} {R} {p} {q} to from same fits = record {
 
 -- two tokens that no test takes both
 module _ {A C B : Type 0} (ns ms : List ℕ) (F G H St : Set) (S : ℕ → A → Rule B) (T : ℕ → C → Rule B) (q : ℕ → A → Reader B) (r : ℕ → C → Reader B) (f : Piece → Option A) (g : Piece → Option C)
-    (clash : (u : Piece) (a : A) (c : C) → f u ≡ Some a → g u ≡ Some c → ⊥) (numbers : (u : Piece) (a : A) → f u ≡ Some a → among (number_of u.terminal) ns ≡ true) (test : Test ms g)
-    (calm : none_in Opening ns ≡ true) (calm_too : none_in Opening ms ≡ true) (begun : included (these ns) F ≡ true) (wide : included (these ms) F ≡ true) (ended : contains St 100 ≡ true)
+    (clash : (u : Piece) (a : A) (c : C) → f u ≡ Some a → g u ≡ Some c → ⊥) (numbers : (u : Piece) (a : A) → f u ≡ Some a → among ns (number_of u.terminal) ≡ true) (test : Test ms g)
+    (calm : none_in Opening ns ≡ true) (calm_too : none_in Opening ms ≡ true) (begun : included (these ns) F ≡ true) (wide : included (these ms) F ≡ true) (ended : contains St the_end ≡ true)
     (fits : (a : A) → Parses G St (λ d. S d a) (λ d. q d a)) (other : (c : C) → Parses H St (λ d. T d c) (λ d. r d c)) where
   second : Parses F St (λ d. TokenThen g (T d)) (λ d. one g >>= r d)
   second = parses_led calm_too wide ended test other
@@ -396,9 +397,9 @@ takes_led {A} {B} {F} {St} {S} {q} f fits d u a takes us bad =
     omega (arith, short)
 
 module _ {B State : Type 0} (F G H St : Set) (gs : List ℕ) (g : State → Piece → Bool) (S : ℕ → State → Rule B) (q : ℕ → State → Reader B) (next : State → B → State)
-    (apart : none_in St gs ≡ true) (begun : included (these gs) F ≡ true) (wide : included St F ≡ true) (goes_on : included F H ≡ true) (ended : contains St 100 ≡ true)
+    (apart : none_in St gs ≡ true) (begun : included (these gs) F ≡ true) (wide : included St F ≡ true) (goes_on : included F H ≡ true) (ended : contains St the_end ≡ true)
     (fits : (s : State) → Chooses G H (λ d. S d s) (λ d. q d s)) (begins : (d : ℕ) (s : State) → Begins (λ u. g s u ≡ true) (S d s))
-    (numbers : (s : State) (u : Piece) → g s u ≡ true → among (number_of u.terminal) gs ≡ true) (takes : (d : ℕ) (s : State) (u : Piece) → g s u ≡ true → Takes (q d s) u) where
+    (numbers : (s : State) (u : Piece) → g s u ≡ true → among gs (number_of u.terminal) ≡ true) (takes : (d : ℕ) (s : State) (u : Piece) → g s u ≡ true → Takes (q d s) u) where
   stops : (s : State) (x : Option Piece) → In St x → of_first (g s) x ≡ false
   stops s None stop = refl
   stops s (Some u) stop = go (g s u) refl

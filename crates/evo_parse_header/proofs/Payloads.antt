@@ -10,6 +10,7 @@ use Rattle.evo_tree.specs.declared.name.Identifier.{Identifier}
 use Rattle.evo_tree.specs.declared.name.TypeName.{TypeName}
 use Rattle.evo_tree.specs.declared.declaration.DeclKind.TheVariants as k
 use Rattle.evo_tree.specs.declared.terminal.Terminal.TheVariants as t
+use Rattle.evo_tree.specs.Terminals.{number_of}
 use Rattle.evo_tree.specs.Pieces.{Piece, mark, identifier}
 use Rattle.evo_tree.specs.Types.{IsType, type_name, type_head, plain_name}
 use Rattle.evo_tree.specs.declared.declaration.Payload.{Payload}
@@ -18,7 +19,7 @@ use Rattle.evo_tree.specs.Declarations as grammar
 use Rattle.evo_tree.specs.Declarations.{payload}
 use Rattle.evo_parse_expr.specs.Read.{Reader, type_of}
 use Rattle.evo_parse_header.specs.Read as read
-use Rattle.evo_parse_header.proofs.Sets.{Set, these, but}
+use Rattle.evo_parse_header.proofs.Sets.{Set, these, but, the_end}
 use Rattle.evo_parse_header.proofs.Parses.{Parses, parses_pure, parses_before, parses_then, parses_map, parses_alt, parses_led, parses_one, parses_opens, parses_many, parses_separated, parses_same}
 use Rattle.evo_parse_header.proofs.Tests.{mark_test, identifier_test, plain_name_test, self_head, self_head_test, head_of, head_cases, head_named, head_self, head_else}
 use Rattle.evo_parse_header.proofs.Productions.{parses_type, parses_close}
@@ -40,15 +41,15 @@ ByFirst = Or (TokenThen identifier ByName) BySelf
 abbrev by_first : Reader Payload
 by_first = alt identifier read.rest_of_payload (one self_head >>= (λ h. many (mark t.Dot) (λ _. one plain_name) >>= (λ ns. pure (payload None (type_name h ns)))))
 
-parses_dotted : {B : Type 0} (g : List (List ℕ) → B) → Parses (but (72 ∷ [])) (but (73 ∷ 72 ∷ [])) (λ _. Then (Many (mark t.Dot) (λ _. One plain_name)) (λ ns. Empty (g ns))) (λ _. many (mark t.Dot) (λ _. one plain_name) >>= (λ ns. pure (g ns)))
-parses_dotted g = parses_map g (parses_many {F = but (72 ∷ [])} {H = Anything} refl refl refl refl refl refl (mark_test t.Dot) (λ d a. (parses_one {F = Anything} {St = Anything} refl refl refl plain_name_test).some 0) (λ _. parses_one {F = Anything} refl refl refl plain_name_test))
+parses_dotted : {B : Type 0} (g : List (List ℕ) → B) → Parses (but (number_of t.Colon ∷ [])) (but (number_of t.Dot ∷ number_of t.Colon ∷ [])) (λ _. Then (Many (mark t.Dot) (λ _. One plain_name)) (λ ns. Empty (g ns))) (λ _. many (mark t.Dot) (λ _. one plain_name) >>= (λ ns. pure (g ns)))
+parses_dotted g = parses_map g (parses_many {F = but (number_of t.Colon ∷ [])} {H = Anything} refl refl refl refl refl refl (mark_test t.Dot) (λ d a. (parses_one {F = Anything} {St = Anything} refl refl refl plain_name_test).some 0) (λ _. parses_one {F = Anything} refl refl refl plain_name_test))
 
-parses_by_name : (n : Identifier) → Parses Anything (but (73 ∷ 72 ∷ [])) (λ _. ByName n) (λ _. read.rest_of_payload n)
+parses_by_name : (n : Identifier) → Parses Anything (but (number_of t.Dot ∷ number_of t.Colon ∷ [])) (λ _. ByName n) (λ _. read.rest_of_payload n)
 unfolding read.rest_of_payload
 parses_by_name n = parses_alt refl refl refl refl (mark_test t.Colon) (λ _. parses_before refl refl (parses_map (payload (Some n)) parses_type)) (parses_dotted (λ ns. payload None (type_name (head_of n) ns))).chooses
 
-parses_by_first : Parses (these (0 ∷ 26 ∷ [])) (but (73 ∷ 72 ∷ [])) (λ _. ByFirst) (λ _. by_first)
-parses_by_first = parses_alt {H = these (26 ∷ [])} refl refl refl refl identifier_test parses_by_name (parses_led refl refl refl self_head_test (λ h. parses_dotted (λ ns. payload None (type_name h ns)))).chooses
+parses_by_first : Parses (these (number_of t.Identifier ∷ number_of t.SelfType ∷ [])) (but (number_of t.Dot ∷ number_of t.Colon ∷ [])) (λ _. ByFirst) (λ _. by_first)
+parses_by_first = parses_alt {H = these (number_of t.SelfType ∷ [])} refl refl refl refl identifier_test parses_by_name (parses_led refl refl refl self_head_test (λ h. parses_dotted (λ ns. payload None (type_name h ns)))).chooses
 
 -- a type, from its head on
 type_from : (us : List Piece) (u : Piece) (h : Place × List ℕ) (vs : List Piece) (names : List (List ℕ)) → us ≡ u ∷ vs → type_head u ≡ Some h → Many (mark t.Dot) (λ _. One plain_name) vs names → IsType us (type_name h names)
@@ -107,22 +108,22 @@ payload_reads (u ∷ us) = go (identifier u) refl
     go (Some n) is = refl
     go None is = ap first_of (head_else u is) ∙ self_type (self_head u) us (suc (length us))
 
-pub parses_payload : Parses (these (0 ∷ 26 ∷ [])) (but (73 ∷ 72 ∷ [])) (λ _. grammar.IsPayload) (λ _. read.payload_of)
+pub parses_payload : Parses (these (number_of t.Identifier ∷ number_of t.SelfType ∷ [])) (but (number_of t.Dot ∷ number_of t.Colon ∷ [])) (λ _. grammar.IsPayload) (λ _. read.payload_of)
 parses_payload = parses_same (λ d. to_payload) (λ d. of_payload) (λ d. payload_reads) parses_by_first
 
-parses_payloads : Parses Anything (but (66 ∷ [])) (λ d. Or (Nested d (mark t.OpenParenthesis) (λ _. grammar.PayloadsTail)) (Empty [])) (λ d. read.payloads d)
+parses_payloads : Parses Anything (but (number_of t.OpenParenthesis ∷ [])) (λ d. Or (Nested d (mark t.OpenParenthesis) (λ _. grammar.PayloadsTail)) (Empty [])) (λ d. read.payloads d)
 unfolding read.payloads read.rest_of_payloads
 parses_payloads =
-    let inside = parses_then {G = these (67 ∷ [])} {St = these (67 ∷ 100 ∷ [])} {St' = but (66 ∷ [])} refl (parses_separated t.Comma refl refl refl refl refl (mark_test t.Comma) parses_payload.some parses_payload) (λ ps. parses_close ps refl refl) in
+    let inside = parses_then {G = these (number_of t.CloseParenthesis ∷ [])} {St = these (number_of t.CloseParenthesis ∷ the_end ∷ [])} {St' = but (number_of t.OpenParenthesis ∷ [])} refl (parses_separated t.Comma refl refl refl refl refl (mark_test t.Comma) parses_payload.some parses_payload) (λ ps. parses_close ps refl refl) in
     parses_opens refl refl refl refl (mark_test t.OpenParenthesis) (λ _. inside.some 0) (λ _. inside) (parses_pure refl []).chooses
 
 some_case : (d : ℕ) → SomeOf (grammar.IsCase d)
 some_case d = some_led identifier _ identifier_test.piece identifier_test.value identifier_test.taken ([], k.Case identifier_test.value [], to_map _ (λ ps. k.Case identifier_test.value ps) [] [] (inr (refl, refl)))
 
-pub parses_case : Parses (these (0 ∷ [])) (but (66 ∷ [])) (λ d. grammar.IsCase d) (λ d. read.case_of d)
+pub parses_case : Parses (these (number_of t.Identifier ∷ [])) (but (number_of t.OpenParenthesis ∷ [])) (λ d. grammar.IsCase d) (λ d. read.case_of d)
 unfolding read.case_of
 parses_case = parses_led refl refl refl identifier_test (λ n. parses_map (λ ps. k.Case n ps) parses_payloads)
 
-pub parses_cases : (p : Place) → Parses (these (0 ∷ [])) (but (66 ∷ 70 ∷ [])) (λ d. grammar.CasesTail d p) (λ d. read.rest_of_cases d p)
+pub parses_cases : (p : Place) → Parses (these (number_of t.Identifier ∷ [])) (but (number_of t.OpenParenthesis ∷ number_of t.Comma ∷ [])) (λ d. grammar.CasesTail d p) (λ d. read.rest_of_cases d p)
 unfolding read.rest_of_cases
 parses_cases p = parses_map (λ cases. (p, cases)) (parses_separated t.Comma refl refl refl refl refl (mark_test t.Comma) some_case parses_case)

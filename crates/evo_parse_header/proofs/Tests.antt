@@ -24,31 +24,17 @@ use Rattle.evo_tree.specs.declared.declaration.Attr.{Attr}
 use Rattle.evo_tree.specs.declared.declaration.ModifierKind.{ModifierKind}
 use Rattle.evo_tree.specs.declared.declaration.Modifier.{Modifier}
 use Rattle.evo_tree.specs.Declarations.{is_get, infix_mark, standing, nominal_word, attribute_word, attribute_of, unless_attribute, modifier_word, modifier_of, unless_modifier}
-use Rattle.evo_parse_header.proofs.Sets.{among}
+use Rattle.evo_parse_expr.proofs.Among.{among, among_alone, same_number}
+use Rattle.evo_parse_expr.proofs.Tests.{when_some, and_both, both_and, mark_is}
 use Rattle.evo_parse_header.proofs.Parses.{Test}
-
-pub when_some : {A : Type 0} (b : Bool) (a x : A) → when b a ≡ Some x → b ≡ true
-when_some true a x e = refl
-when_some false a x e = absurd cc
-
-pub and_left : (a b : Bool) → (a && b) ≡ true → a ≡ true
-and_left true b e = refl
-and_left false b e = absurd (cc)
-
-or_none : (a : Bool) → a ≡ true → (a || false) ≡ true
-or_none true e = refl
-or_none false e = absurd (cc)
 
 unfoldable pub a_piece : Terminal → List ℕ → Piece
 a_piece k w = record { terminal = k; role = role.Infix; below = false; place = record { line = 1; col = 1 }; text = w }
 
-same_number : (n : ℕ) → (n == n) ≡ true
-same_number n = (Decides-eqb n n).1 refl
-
 -- a test that asks for a terminal and more
 module _ {A : Type 0} (k : Terminal) (more : Piece → Bool) (value : Piece → A) where
-  takes_number : (u : Piece) (a : A) → when (is_terminal k u && more u) (value u) ≡ Some a → among (number_of u.terminal) (number_of k ∷ []) ≡ true
-  takes_number u a e = or_none (number_of u.terminal == number_of k) (and_left (is_terminal k u) (more u) (when_some (is_terminal k u && more u) (value u) a e))
+  takes_number : (u : Piece) (a : A) → when (is_terminal k u && more u) (value u) ≡ Some a → among (number_of k ∷ []) (number_of u.terminal) ≡ true
+  takes_number u a e = among_alone (number_of u.terminal) (number_of k) (and_both (is_terminal k u) (more u) (when_some (is_terminal k u && more u) (value u) a e).0).0
 
   takes_piece : (w : List ℕ) → more (a_piece k w) ≡ true → when (is_terminal k (a_piece k w) && more (a_piece k w)) (value (a_piece k w)) ≡ Some (value (a_piece k w))
   unfolding a_piece
@@ -57,13 +43,13 @@ module _ {A : Type 0} (k : Terminal) (more : Piece → Bool) (value : Piece → 
 pub mark_test : (k : Terminal) → Test (number_of k ∷ []) (mark k)
 unfolding mark a_piece
 mark_test k = record {
-  numbers = λ u a e. or_none (number_of u.terminal == number_of k) (when_some (is_terminal k u) u.place a e);
+  numbers = λ u a e. among_alone (number_of u.terminal) (number_of k) (when_some (is_terminal k u) u.place a e).0;
   piece = a_piece k [];
   value = (a_piece k []).place;
   taken = ap (λ b. when b (a_piece k []).place) (same_number (number_of k));
 }
 
-pub word_test : (w : List ℕ) → Test (0 ∷ []) (word w)
+pub word_test : (w : List ℕ) → Test (number_of t.Identifier ∷ []) (word w)
 unfolding word a_piece
 word_test w = record {
   numbers = takes_number t.Identifier (λ u. bytes_eq u.text w) (λ u. u.place);
@@ -79,7 +65,7 @@ a_ascii (suc i) = omega arith
 a_utf8 : is_utf8 (codes "a") ≡ true
 a_utf8 = is_utf8-from_IsUtf8 (codes "a") (IsUtf8-from_ascii (codes "a") a_ascii)
 
-pub identifier_test : Test (0 ∷ []) identifier
+pub identifier_test : Test (number_of t.Identifier ∷ []) identifier
 unfolding identifier a_piece
 identifier_test =
     let value = λ (u : Piece). let n : Identifier = record { place = u.place; text = u.text } in n in record {
@@ -89,7 +75,7 @@ identifier_test =
       taken = takes_piece t.Identifier (λ u. is_utf8 u.text) value (codes "a") a_utf8;
     }
 
-pub plain_name_test : Test (0 ∷ []) plain_name
+pub plain_name_test : Test (number_of t.Identifier ∷ []) plain_name
 unfolding plain_name a_piece
 plain_name_test = record {
   numbers = takes_number t.Identifier (λ u. is_utf8 u.text) (λ u. u.text);
@@ -98,7 +84,7 @@ plain_name_test = record {
   taken = takes_piece t.Identifier (λ u. is_utf8 u.text) (λ u. u.text) (codes "a") a_utf8;
 }
 
-either : (n : ℕ) (a b : ℕ) → ((n == a) || (n == b)) ≡ true → among n (a ∷ b ∷ []) ≡ true
+either : (n : ℕ) (a b : ℕ) → ((n == a) || (n == b)) ≡ true → among (a ∷ b ∷ []) n ≡ true
 either n a b e = go (n == a) (n == b) e
   where
     go : (x y : Bool) → (x || y) ≡ true → (x || (y || false)) ≡ true
@@ -106,10 +92,10 @@ either n a b e = go (n == a) (n == b) e
     go false true e = refl
     go false false e = absurd (cc)
 
-pub type_head_test : Test (0 ∷ 26 ∷ []) type_head
+pub type_head_test : Test (number_of t.Identifier ∷ number_of t.SelfType ∷ []) type_head
 unfolding type_head a_piece
 type_head_test = record {
-  numbers = λ u a e. either (number_of u.terminal) 0 26 (and_left (is_terminal t.Identifier u || is_terminal t.SelfType u) (is_utf8 u.text) (when_some _ (u.place, u.text) a e));
+  numbers = λ u a e. either (number_of u.terminal) (number_of t.Identifier) (number_of t.SelfType) (and_both (is_terminal t.Identifier u || is_terminal t.SelfType u) (is_utf8 u.text) (when_some _ (u.place, u.text) a e).0).0;
   piece = a_piece t.Identifier (codes "a");
   value = ((a_piece t.Identifier (codes "a")).place, codes "a");
   taken = ap (λ b. when b ((a_piece t.Identifier (codes "a")).place, codes "a")) a_utf8;
@@ -124,7 +110,7 @@ infix_test k = record {
   taken = takes_piece k (λ u. has_role role.Infix u) (λ u. u.place) [] refl;
 }
 
-pub integer_test : Test (2 ∷ []) (integer (2 ^ 32 - 1))
+pub integer_test : Test (number_of t.Integer ∷ []) (integer (2 ^ 32 - 1))
 unfolding integer a_piece
 integer_test = record {
   numbers = takes_number t.Integer (λ u. nat_le (integer_value u.text) (2 ^ 32 - 1)) (λ u. (u.place, integer_value u.text));
@@ -133,10 +119,10 @@ integer_test = record {
   taken = takes_piece t.Integer (λ u. nat_le (integer_value u.text) (2 ^ 32 - 1)) (λ u. (u.place, integer_value u.text)) (codes "0") refl;
 }
 
-pub standing_test : Test (0 ∷ []) standing
+pub standing_test : Test (number_of t.Identifier ∷ []) standing
 unfolding standing a_piece
 standing_test = record {
-  numbers = λ u a e. or_none (number_of u.terminal == 0) (first_of (is_terminal t.Identifier u) (bytes_eq u.text (codes "deprecated")) (bytes_eq u.text (codes "unavailable")) a e);
+  numbers = λ u a e. among_alone (number_of u.terminal) (number_of t.Identifier) (first_of (is_terminal t.Identifier u) (bytes_eq u.text (codes "deprecated")) (bytes_eq u.text (codes "unavailable")) a e);
   piece = a_piece t.Identifier (codes "deprecated");
   value = availability.Deprecated;
   taken = refl;
@@ -146,7 +132,7 @@ standing_test = record {
     first_of true y z a e = refl
     first_of false y z a e = absurd (cc)
 
-pub nominal_test : Test (5 ∷ 6 ∷ 7 ∷ 8 ∷ []) nominal_word
+pub nominal_test : Test (number_of t.Struct ∷ number_of t.Enum ∷ number_of t.Class ∷ number_of t.Protocol ∷ []) nominal_word
 unfolding nominal_word a_piece
 nominal_test = record {
   numbers = λ u a e. one_of (is_terminal t.Struct u) (is_terminal t.Enum u) (is_terminal t.Class u) (is_terminal t.Protocol u) u.place a e;
@@ -166,12 +152,8 @@ nominal_test = record {
 
 -- ---- the words of attributes and modifiers
 
-pub is_number : (k : Terminal) (u : Piece) → is_terminal k u ≡ true → among (number_of u.terminal) (number_of k ∷ []) ≡ true
-is_number k u is = or_none (number_of u.terminal == number_of k) is
-
-pub mark_is : (k : Terminal) (u : Piece) (p : Place) → mark k u ≡ Some p → is_terminal k u ≡ true
-unfolding mark
-mark_is k u p takes = when_some (is_terminal k u) u.place p takes
+pub number_among : (k : Terminal) (u : Piece) → is_terminal k u ≡ true → among (number_of k ∷ []) (number_of u.terminal) ≡ true
+number_among k u is = among_alone (number_of u.terminal) (number_of k) is
 
 pub is_marked : (k : Terminal) (u : Piece) → is_terminal k u ≡ true → mark k u ≡ Some u.place
 unfolding mark
@@ -181,30 +163,26 @@ pub not_marked : (k : Terminal) (u : Piece) → is_terminal k u ≡ false → ma
 unfolding mark
 not_marked k u isnt = ap (λ b. when b u.place) isnt
 
-pub attribute_numbers : (attrs : List Attr) (u : Piece) (kind : AttrKind) → attribute_word attrs u ≡ Some kind → among (number_of u.terminal) (0 ∷ []) ≡ true
+pub attribute_numbers : (attrs : List Attr) (u : Piece) (kind : AttrKind) → attribute_word attrs u ≡ Some kind → among (number_of t.Identifier ∷ []) (number_of u.terminal) ≡ true
 unfolding attribute_word
-attribute_numbers attrs u kind e = or_none (number_of u.terminal == 0) (go (is_terminal t.Identifier u) (unless_attribute attrs (attribute_of u.text)) e)
+attribute_numbers attrs u kind e = among_alone (number_of u.terminal) (number_of t.Identifier) (go (is_terminal t.Identifier u) (unless_attribute attrs (attribute_of u.text)) e)
   where
     go : (b : Bool) (o : Option AttrKind) → (if b then o else None) ≡ Some kind → b ≡ true
     go true o e = refl
     go false o e = absurd (cc)
 
-and_right : (a b : Bool) → (a && b) ≡ true → b ≡ true
-and_right true b e = e
-and_right false b e = absurd (cc)
-
 -- `available` is the word of no other attribute
 pub attribute_clash : (attrs : List Attr) (u : Piece) (kind : AttrKind) (p : Place) → attribute_word attrs u ≡ Some kind → word (codes "available") u ≡ Some p → ⊥
 unfolding attribute_word word
 attribute_clash attrs u kind p e h =
-    let same : u.text ≡ codes "available" = (bytes_eq-Decides u.text (codes "available")).0 (and_right (is_terminal t.Identifier u) (bytes_eq u.text (codes "available")) (when_some _ u.place p h)) in
+    let same : u.text ≡ codes "available" = (bytes_eq-Decides u.text (codes "available")).0 (and_both (is_terminal t.Identifier u) (bytes_eq u.text (codes "available")) (when_some _ u.place p h).0).1 in
     go (is_terminal t.Identifier u) (subst (λ w. (if is_terminal t.Identifier u then unless_attribute attrs (attribute_of w) else None) ≡ Some kind) same e)
   where
     go : (b : Bool) → ◌≡◌ {A = Option AttrKind} (if b then None else None) (Some kind) → ⊥
     go true e = cc
     go false e = cc
 
-modifier_numbers_of : (k : Terminal) (kind : ModifierKind) → modifier_of k ≡ Some kind → among (number_of k) (17 ∷ 18 ∷ 19 ∷ 20 ∷ 21 ∷ 22 ∷ 23 ∷ 24 ∷ []) ≡ true
+modifier_numbers_of : (k : Terminal) (kind : ModifierKind) → modifier_of k ≡ Some kind → among (number_of t.Open ∷ number_of t.Public ∷ number_of t.Internal ∷ number_of t.Private ∷ number_of t.Final ∷ number_of t.Static ∷ number_of t.Mutating ∷ number_of t.Override ∷ []) (number_of k) ≡ true
 modifier_numbers_of t.Open kind e = refl
 modifier_numbers_of t.Public kind e = refl
 modifier_numbers_of t.Internal kind e = refl
@@ -215,11 +193,11 @@ modifier_numbers_of t.Override kind e = refl
 modifier_numbers_of t.Mutating kind e = refl
 modifier_numbers_of k kind e = absurd (cc)
 
-pub modifier_numbers : (ms : List Modifier) (u : Piece) (m : Modifier) → modifier_word ms u ≡ Some m → among (number_of u.terminal) (17 ∷ 18 ∷ 19 ∷ 20 ∷ 21 ∷ 22 ∷ 23 ∷ 24 ∷ []) ≡ true
+pub modifier_numbers : (ms : List Modifier) (u : Piece) (m : Modifier) → modifier_word ms u ≡ Some m → among (number_of t.Open ∷ number_of t.Public ∷ number_of t.Internal ∷ number_of t.Private ∷ number_of t.Final ∷ number_of t.Static ∷ number_of t.Mutating ∷ number_of t.Override ∷ []) (number_of u.terminal) ≡ true
 unfolding modifier_word
 modifier_numbers ms u m e = go (modifier_of u.terminal) refl e
   where
-    go : (o : Option ModifierKind) → modifier_of u.terminal ≡ o → unless_modifier ms u.place o ≡ Some m → among (number_of u.terminal) (17 ∷ 18 ∷ 19 ∷ 20 ∷ 21 ∷ 22 ∷ 23 ∷ 24 ∷ []) ≡ true
+    go : (o : Option ModifierKind) → modifier_of u.terminal ≡ o → unless_modifier ms u.place o ≡ Some m → among (number_of t.Open ∷ number_of t.Public ∷ number_of t.Internal ∷ number_of t.Private ∷ number_of t.Final ∷ number_of t.Static ∷ number_of t.Mutating ∷ number_of t.Override ∷ []) (number_of u.terminal) ≡ true
     go (Some kind) is e = modifier_numbers_of u.terminal kind is
     go None is e = absurd (cc)
 
@@ -232,7 +210,7 @@ Headed = Place × List ℕ
 unfoldable pub self_head : Piece → Option Headed
 self_head u = when (is_terminal t.SelfType u && is_utf8 u.text) (u.place, u.text)
 
-pub self_head_test : Test (26 ∷ []) self_head
+pub self_head_test : Test (number_of t.SelfType ∷ []) self_head
 unfolding self_head a_piece
 self_head_test = record {
   numbers = takes_number t.SelfType (λ u. is_utf8 u.text) (λ u. (u.place, u.text));
@@ -243,10 +221,6 @@ self_head_test = record {
 
 abbrev pub head_of : Identifier → Headed
 head_of n = (n.place, n.text)
-
-when_value : {A : Type 0} (b : Bool) (a x : A) → when b a ≡ Some x → a ≡ x
-when_value true a x e = cc
-when_value false a x e = absurd (cc)
 
 -- the head of a type is an identifier or `Self`
 pub head_cases : (u : Piece) (h : Headed) → type_head u ≡ Some h → ((n : Identifier) × (identifier u ≡ Some n) × (h ≡ head_of n)) ⊎ (self_head u ≡ Some h)
@@ -301,11 +275,7 @@ get_ascii (suc (suc (suc i))) = omega arith
 -- the word `get` is an identifier
 pub get_utf8 : (v : Piece) → is_get v ≡ true → is_identifier v ≡ true
 get_utf8 v is =
-    let word = and_right (is_terminal t.Identifier v) (bytes_eq v.text (codes "get")) is in
+    let word = (and_both (is_terminal t.Identifier v) (bytes_eq v.text (codes "get")) is).1 in
     let same : v.text ≡ codes "get" = (bytes_eq-Decides v.text (codes "get")).0 word in
-    both_true (is_terminal t.Identifier v) (is_utf8 v.text) (and_left (is_terminal t.Identifier v) (bytes_eq v.text (codes "get")) is)
+    both_and (is_terminal t.Identifier v) (is_utf8 v.text) (and_both (is_terminal t.Identifier v) (bytes_eq v.text (codes "get")) is).0
     (subst (λ w. is_utf8 w ≡ true) (sym same) (is_utf8-from_IsUtf8 (codes "get") (IsUtf8-from_ascii (codes "get") get_ascii)))
-  where
-    both_true : (a b : Bool) → a ≡ true → b ≡ true → (a && b) ≡ true
-    both_true true b p q = q
-    both_true false b p q = absurd (cc)

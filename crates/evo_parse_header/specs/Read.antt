@@ -43,14 +43,17 @@ number = one (integer (2 ^ 32 - 1)) >>= (λ v. pure v.1)
 unfoldable pub minor : Reader ℕ
 minor = alt (mark t.Dot) (λ _. number) (pure 0)
 
-unfoldable pub availability : Reader Availability
-availability = alt (mark t.Star) (λ _. one (mark t.Comma) >>= (λ _. one standing)) (do
-  _ ← one (word (codes "macOS"))
+-- behind `macOS`
+abbrev pub rest_of_introduced : Reader Availability
+rest_of_introduced = do
   n ← number
   m ← minor
   _ ← one (mark t.Comma)
   _ ← one (mark t.Star)
-  pure (introduced n m))
+  pure (introduced n m)
+
+unfoldable pub availability : Reader Availability
+availability = alt (mark t.Star) (λ _. one (mark t.Comma) >>= (λ _. one standing)) (one (word (codes "macOS")) >>= (λ _. rest_of_introduced))
 
 unfoldable pub rest_of_available : ℕ → Place → Reader Attr
 rest_of_available d p = opens d (mark t.OpenParenthesis) (λ _. do

@@ -6,14 +6,13 @@ ghost use Rattle.std.specs.List.{list_any};
 ghost use Rattle.evo_tree.specs.Declarations as grammar;
 ghost use Rattle.evo_parse_header.specs.Read as spec;
 
-use crate::headers::too_deep;
 use crate::words::{
     attribute_number, attribute_word, expect_standing, has_modifier, modifier_number,
 };
-use evo_base::{List, Place};
+use evo_base::{List, Place, Release};
 use evo_combinators::ReadError;
-use evo_parse_expr::{Cursor, Lexeme};
-use evo_tree::{Attr, AttrKind, Availability, Modifier, ModifierKind, Release, Terminal};
+use evo_parse_expr::{Cursor, Lexeme, too_deep};
+use evo_tree::{Attr, AttrKind, Availability, Modifier, ModifierKind, Terminal};
 use std::alloc::{AllocError, Global};
 
 // A number of a release.
@@ -34,6 +33,17 @@ fn minor(tokens: &mut Cursor<'_>) -> Result<u32, ReadError>
     Ok(0)
 }
 
+// The release that introduced something, and what stands behind it.
+fn introduced(tokens: &mut Cursor<'_>) -> Result<Availability, ReadError>
+    ensures { Reads (spec.rest_of_introduced tokens.old) result tokens.new }
+{
+    let major = number(tokens)?;
+    let minor = minor(tokens)?;
+    tokens.expect_mark(Terminal::Comma)?;
+    tokens.expect_mark(Terminal::Star)?;
+    Ok(Availability::Introduced(Release { major, minor }))
+}
+
 #[tactic(auto, unfolding(crate::specs::Read::availability))]
 fn availability(tokens: &mut Cursor<'_>) -> Result<Availability, ReadError>
     ensures { Reads (spec.availability tokens.old) result tokens.new }
@@ -43,11 +53,7 @@ fn availability(tokens: &mut Cursor<'_>) -> Result<Availability, ReadError>
         return expect_standing(tokens);
     }
     tokens.expect_word(b"macOS")?;
-    let major = number(tokens)?;
-    let minor = minor(tokens)?;
-    tokens.expect_mark(Terminal::Comma)?;
-    tokens.expect_mark(Terminal::Star)?;
-    Ok(Availability::Introduced(Release { major, minor }))
+    introduced(tokens)
 }
 
 #[tactic(auto, unfolding(crate::specs::Read::rest_of_available))]

@@ -4,11 +4,10 @@ ghost use Rattle.std.specs.Prelude.{◌≡◌, ◌∷◌, ℕ, List};
 ghost use Rattle.evo_combinators.specs.Reader.{Reads};
 ghost use Rattle.evo_parse_header.specs.Read as spec;
 
-use crate::headers::too_deep;
 use crate::parts::{Part, further, separated};
 use evo_base::{List, Place};
 use evo_combinators::ReadError;
-use evo_parse_expr::{Cursor, type_name};
+use evo_parse_expr::{Cursor, too_deep, type_name};
 use evo_tree::{DeclKind, Identifier, Payload, Terminal, TypeName};
 use std::alloc::Global;
 

@@ -8,20 +8,13 @@ ghost use Rattle.evo_parse_header.specs.Read as spec;
 use crate::parts::{Part, separated};
 use crate::words::{expect_infix, mark_if};
 use evo_base::{List, Place};
-use evo_combinators::{Fault, ReadError};
-use evo_parse_expr::{Cursor, type_name};
+use evo_combinators::ReadError;
+use evo_parse_expr::{Cursor, too_deep, type_name};
 use evo_tree::{
     GenericParameter, Header, Identifier, Parameter, ParameterLabel, Requirement, Scope, Terminal,
     TypeName,
 };
 use std::alloc::Global;
-
-/// The fault that a token opens one nesting too many, where so many tokens are left, with it.
-pub fn too_deep(left: usize) -> ReadError
-    ensures { result ≡ ReadError.Fault (Fault.Deep left) }
-{
-    ReadError::Fault(Fault::Deep(left))
-}
 
 fn empty<T>(alloc: Global) -> List<T>
     ensures { result ≡ [] }

@@ -17,7 +17,9 @@ use Rattle.evo_tree.specs.Terminals.{number_of}
 use Rattle.evo_tree.specs.Pieces.{Piece, is_terminal, mark, identifier, integer, string, sign, sign_of, placed, has_role}
 use Rattle.evo_tree.specs.Expressions.{chain, members, one_operand}
 use Rattle.evo_parse_expr.specs.Read.{Reader, opens, chain_of, pair_of, levels, arguments, called, member, rest_of_super, named, later_primary, primary, links, post, unary_of, unary, expr}
-use Rattle.evo_parse_stmt.proofs.Tests.{among, code, Codes, mark_of, mark_codes, identifier_codes, integer_codes, string_codes, is_terminal_number}
+use Rattle.evo_parse_expr.proofs.Among.{among}
+use Rattle.evo_parse_expr.proofs.Tests.{is_number}
+use Rattle.evo_parse_stmt.proofs.Tests.{code, Codes, mark_of, mark_codes, identifier_codes, integer_codes, string_codes}
 
 -- a test does not take the token
 none_by : {A : Type 0} (f : Piece → Option A) (js : List ℕ) → Codes js f → (k : Terminal) (p : Piece) → code p ≡ number_of k → among js (number_of k) ≡ false → f p ≡ None
@@ -71,7 +73,7 @@ levels_err p ts d bad = chain_err _ _ ts d (chain_err _ _ ts d (pair_err _ _ ts 
 
 module _ (d : ℕ) (i o : Reader Expr) (u v w : Piece) (us : List Piece) (dotted : is_terminal t.Dot v ≡ true) (is : is_terminal t.Init w ≡ true) where
   no_name : one identifier (w ∷ us) ≡ Err (Grammar (suc (length us)))
-  no_name = alt_none identifier pure refuse w us (none_by identifier (number_of t.Identifier ∷ []) identifier_codes t.Init w (is_terminal_number t.Init w is) refl)
+  no_name = alt_none identifier pure refuse w us (none_by identifier (number_of t.Identifier ∷ []) identifier_codes t.Init w (is_number t.Init w is) refl)
 
   no_member : member d i o (w ∷ us) ≡ Err (Grammar (suc (length us)))
   unfolding member
@@ -117,14 +119,14 @@ module _ (d : ℕ) (i o : Reader Expr) (u v w : Piece) (us : List Piece) (dotted
   unfolding post
   self_post own =
       ap (λ x. and_then x (links d i o))
-      (at_front t.SelfValue (is_terminal_number t.SelfValue u own) refl refl refl (v ∷ (w ∷ us))
+      (at_front t.SelfValue (is_number t.SelfValue u own) refl refl refl (v ∷ (w ∷ us))
       ∙ alt_some (mark t.SelfValue) (λ p. pure (e.SelfValue p)) from_type u u.place (v ∷ (w ∷ us)) (mark_of t.SelfValue u own))
       ∙ no_links (e.SelfValue u.place)
 
   super_post : is_terminal t.Super u ≡ true → post d i o (u ∷ (v ∷ (w ∷ us))) ≡ Err (Grammar (suc (length us)))
   unfolding post
   super_post own =
-      let at = is_terminal_number t.Super u own in
+      let at = is_number t.Super u own in
       ap (λ x. and_then x (links d i o))
       (at_front t.Super at refl refl refl (v ∷ (w ∷ us))
       ∙ alt_none (mark t.SelfValue) (λ p. pure (e.SelfValue p)) from_type u (v ∷ (w ∷ us)) (none_by (mark t.SelfValue) (number_of t.SelfValue ∷ []) (mark_codes t.SelfValue) t.Super u at refl)
@@ -140,8 +142,8 @@ module _ (d : ℕ) (i o : Reader Expr) (u v w : Piece) (us : List Piece) (dotted
   own_post (inr own) = super_post own
 
   own_sign : Own → sign u ≡ None
-  own_sign (inl own) = none_by sign (number_of t.Minus ∷ number_of t.Not ∷ []) sign_codes t.SelfValue u (is_terminal_number t.SelfValue u own) refl
-  own_sign (inr own) = none_by sign (number_of t.Minus ∷ number_of t.Not ∷ []) sign_codes t.Super u (is_terminal_number t.Super u own) refl
+  own_sign (inl own) = none_by sign (number_of t.Minus ∷ number_of t.Not ∷ []) sign_codes t.SelfValue u (is_number t.SelfValue u own) refl
+  own_sign (inr own) = none_by sign (number_of t.Minus ∷ number_of t.Not ∷ []) sign_codes t.Super u (is_number t.Super u own) refl
 
   own_unary : Own → unary_of d i o (u ∷ (v ∷ (w ∷ us))) ≡ Err (Grammar (suc (length us)))
   unfolding unary_of

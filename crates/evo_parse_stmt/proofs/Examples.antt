@@ -60,7 +60,7 @@ a_choice_tree = s.If (at 0) ((Some (e.Name (name 3 (codes "a")) None), block (at
 
 -- if a { return 1 } else { return 2 }
 pub a_choice : IsStmt false 64 a_choice_pieces a_choice_tree
-unfolding lead many ahead starts starts_two starts_three tries is_utf8 chars encode string_value keyword_terminal operator_terminal mark identifier word integer string negative sign call infix_by type_head plain_name out-Expr out grammar.introduces grammar.assigns grammar.is_here grammar.is_below grammar.is_later grammar.is_target grammar.assigns_to expression.chain_of expression.pair_of expression.labelled expression.listed_arguments expression.closed_arguments expression.rest_of_arguments expression.arguments expression.called expression.member expression.rest_of_group expression.rest_of_super expression.magnitude expression.named expression.implicit expression.later_primary expression.primary expression.links expression.post expression.unary_of expression.unary expression.type_of read.binder read.sub read.subs read.rest_of_payload read.payload read.path read.magnitude read.implicit read.typed read.pattern read.later read.further read.some_statements read.rest_of_block read.block_of read.patterns read.unknown read.label read.clause read.rest_of_clauses read.clauses_of read.annotation read.rest_of_local read.rest_of_discard read.branch read.behind_else read.rest_of_if read.rest_of_while read.value_here read.rest_of_return read.rest_of_switch read.self_init read.super_init read.rest_of_assignment read.action read.leaving read.stmt_of read.stmt
+unfolding lead many ahead starts starts_two starts_three tries is_utf8 chars encode string_value keyword_terminal operator_terminal mark identifier word integer string negative sign call infix_by type_head plain_name out-Expr out grammar.introduces grammar.attached_minus grammar.assigns grammar.is_here grammar.is_below grammar.is_later grammar.is_target grammar.assigns_to expression.chain_of expression.pair_of expression.labelled expression.listed_arguments expression.closed_arguments expression.rest_of_arguments expression.arguments expression.called expression.member expression.rest_of_group expression.rest_of_super expression.magnitude expression.named expression.implicit expression.later_primary expression.primary expression.links expression.post expression.unary_of expression.unary expression.type_of read.binder read.sub read.subs read.rest_of_payload read.payload read.path read.magnitude read.implicit read.typed read.pattern read.later read.further read.some_statements read.rest_of_block read.block_of read.patterns read.unknown read.label read.clause read.rest_of_clauses read.clauses_of read.annotation read.rest_of_local read.rest_of_discard read.branch read.behind_else read.rest_of_if read.rest_of_while read.value_here read.rest_of_return read.rest_of_switch read.self_init read.super_init read.rest_of_assignment read.action read.leaving read.stmt_of read.stmt
 a_choice = spelled false 64 a_choice_pieces a_choice_tree refl
 
 abbrev a_switch_pieces : List Piece
@@ -82,7 +82,7 @@ a_switch_tree = s.Switch (at 0) (e.Name (name 7 (codes "x")) None) (clause (
 
 -- switch x { case .a(let y, k: _), 1: let z: T = y; _ = z; break }
 pub a_switch : IsStmt false 64 a_switch_pieces a_switch_tree
-unfolding lead many ahead starts starts_two starts_three tries is_utf8 chars encode string_value keyword_terminal operator_terminal mark identifier word integer string negative sign call infix_by type_head plain_name out-Expr out grammar.introduces grammar.assigns grammar.is_here grammar.is_below grammar.is_later grammar.is_target grammar.assigns_to expression.chain_of expression.pair_of expression.labelled expression.listed_arguments expression.closed_arguments expression.rest_of_arguments expression.arguments expression.called expression.member expression.rest_of_group expression.rest_of_super expression.magnitude expression.named expression.implicit expression.later_primary expression.primary expression.links expression.post expression.unary_of expression.unary expression.type_of read.binder read.sub read.subs read.rest_of_payload read.payload read.path read.magnitude read.implicit read.typed read.pattern read.later read.further read.some_statements read.rest_of_block read.block_of read.patterns read.unknown read.label read.clause read.rest_of_clauses read.clauses_of read.annotation read.rest_of_local read.rest_of_discard read.branch read.behind_else read.rest_of_if read.rest_of_while read.value_here read.rest_of_return read.rest_of_switch read.self_init read.super_init read.rest_of_assignment read.action read.leaving read.stmt_of read.stmt
+unfolding lead many ahead starts starts_two starts_three tries is_utf8 chars encode string_value keyword_terminal operator_terminal mark identifier word integer string negative sign call infix_by type_head plain_name out-Expr out grammar.introduces grammar.attached_minus grammar.assigns grammar.is_here grammar.is_below grammar.is_later grammar.is_target grammar.assigns_to expression.chain_of expression.pair_of expression.labelled expression.listed_arguments expression.closed_arguments expression.rest_of_arguments expression.arguments expression.called expression.member expression.rest_of_group expression.rest_of_super expression.magnitude expression.named expression.implicit expression.later_primary expression.primary expression.links expression.post expression.unary_of expression.unary expression.type_of read.binder read.sub read.subs read.rest_of_payload read.payload read.path read.magnitude read.implicit read.typed read.pattern read.later read.further read.some_statements read.rest_of_block read.block_of read.patterns read.unknown read.label read.clause read.rest_of_clauses read.clauses_of read.annotation read.rest_of_local read.rest_of_discard read.branch read.behind_else read.rest_of_if read.rest_of_while read.value_here read.rest_of_return read.rest_of_switch read.self_init read.super_init read.rest_of_assignment read.action read.leaving read.stmt_of read.stmt
 a_switch = spelled false 64 a_switch_pieces a_switch_tree refl
 
 abbrev an_assignment_pieces : List Piece
@@ -94,7 +94,7 @@ an_assignment_tree = s.Assign (e.Name (name 0 (codes "x")) None) assignment.Add 
 
 -- x += 1
 pub an_assignment : IsStmt false 64 an_assignment_pieces an_assignment_tree
-unfolding lead many ahead starts starts_two starts_three tries is_utf8 chars encode string_value keyword_terminal operator_terminal mark identifier word integer string negative sign call infix_by type_head plain_name out-Expr out grammar.introduces grammar.assigns grammar.is_here grammar.is_below grammar.is_later grammar.is_target grammar.assigns_to expression.chain_of expression.pair_of expression.labelled expression.listed_arguments expression.closed_arguments expression.rest_of_arguments expression.arguments expression.called expression.member expression.rest_of_group expression.rest_of_super expression.magnitude expression.named expression.implicit expression.later_primary expression.primary expression.links expression.post expression.unary_of expression.unary expression.type_of read.binder read.sub read.subs read.rest_of_payload read.payload read.path read.magnitude read.implicit read.typed read.pattern read.later read.further read.some_statements read.rest_of_block read.block_of read.patterns read.unknown read.label read.clause read.rest_of_clauses read.clauses_of read.annotation read.rest_of_local read.rest_of_discard read.branch read.behind_else read.rest_of_if read.rest_of_while read.value_here read.rest_of_return read.rest_of_switch read.self_init read.super_init read.rest_of_assignment read.action read.leaving read.stmt_of read.stmt
+unfolding lead many ahead starts starts_two starts_three tries is_utf8 chars encode string_value keyword_terminal operator_terminal mark identifier word integer string negative sign call infix_by type_head plain_name out-Expr out grammar.introduces grammar.attached_minus grammar.assigns grammar.is_here grammar.is_below grammar.is_later grammar.is_target grammar.assigns_to expression.chain_of expression.pair_of expression.labelled expression.listed_arguments expression.closed_arguments expression.rest_of_arguments expression.arguments expression.called expression.member expression.rest_of_group expression.rest_of_super expression.magnitude expression.named expression.implicit expression.later_primary expression.primary expression.links expression.post expression.unary_of expression.unary expression.type_of read.binder read.sub read.subs read.rest_of_payload read.payload read.path read.magnitude read.implicit read.typed read.pattern read.later read.further read.some_statements read.rest_of_block read.block_of read.patterns read.unknown read.label read.clause read.rest_of_clauses read.clauses_of read.annotation read.rest_of_local read.rest_of_discard read.branch read.behind_else read.rest_of_if read.rest_of_while read.value_here read.rest_of_return read.rest_of_switch read.self_init read.super_init read.rest_of_assignment read.action read.leaving read.stmt_of read.stmt
 an_assignment = spelled false 64 an_assignment_pieces an_assignment_tree refl
 
 abbrev an_initialisation_pieces : List Piece
@@ -107,5 +107,5 @@ an_initialisation_tree = s.SelfInit (at 0) ((Some (name 10 (codes "x")), e.Integ
 
 -- self.init(x: 1)
 pub an_initialisation : IsStmt true 64 an_initialisation_pieces an_initialisation_tree
-unfolding lead many ahead starts starts_two starts_three tries is_utf8 chars encode string_value keyword_terminal operator_terminal mark identifier word integer string negative sign call infix_by type_head plain_name out-Expr out grammar.introduces grammar.assigns grammar.is_here grammar.is_below grammar.is_later grammar.is_target grammar.assigns_to expression.chain_of expression.pair_of expression.labelled expression.listed_arguments expression.closed_arguments expression.rest_of_arguments expression.arguments expression.called expression.member expression.rest_of_group expression.rest_of_super expression.magnitude expression.named expression.implicit expression.later_primary expression.primary expression.links expression.post expression.unary_of expression.unary expression.type_of read.binder read.sub read.subs read.rest_of_payload read.payload read.path read.magnitude read.implicit read.typed read.pattern read.later read.further read.some_statements read.rest_of_block read.block_of read.patterns read.unknown read.label read.clause read.rest_of_clauses read.clauses_of read.annotation read.rest_of_local read.rest_of_discard read.branch read.behind_else read.rest_of_if read.rest_of_while read.value_here read.rest_of_return read.rest_of_switch read.self_init read.super_init read.rest_of_assignment read.action read.leaving read.stmt_of read.stmt
+unfolding lead many ahead starts starts_two starts_three tries is_utf8 chars encode string_value keyword_terminal operator_terminal mark identifier word integer string negative sign call infix_by type_head plain_name out-Expr out grammar.introduces grammar.attached_minus grammar.assigns grammar.is_here grammar.is_below grammar.is_later grammar.is_target grammar.assigns_to expression.chain_of expression.pair_of expression.labelled expression.listed_arguments expression.closed_arguments expression.rest_of_arguments expression.arguments expression.called expression.member expression.rest_of_group expression.rest_of_super expression.magnitude expression.named expression.implicit expression.later_primary expression.primary expression.links expression.post expression.unary_of expression.unary expression.type_of read.binder read.sub read.subs read.rest_of_payload read.payload read.path read.magnitude read.implicit read.typed read.pattern read.later read.further read.some_statements read.rest_of_block read.block_of read.patterns read.unknown read.label read.clause read.rest_of_clauses read.clauses_of read.annotation read.rest_of_local read.rest_of_discard read.branch read.behind_else read.rest_of_if read.rest_of_while read.value_here read.rest_of_return read.rest_of_switch read.self_init read.super_init read.rest_of_assignment read.action read.leaving read.stmt_of read.stmt
 an_initialisation = spelled true 64 an_initialisation_pieces an_initialisation_tree refl

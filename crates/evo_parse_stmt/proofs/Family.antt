@@ -1,5 +1,5 @@
 -- Statements by how much nesting may open: their readers read the grammar.
-use Rattle.std.specs.Prelude.{◌≡◌, ℕ, zero, suc, Bool, true, false, List, [], ◌∷◌, length, Some, Err, ◌⊎◌, refl}
+use Rattle.std.specs.Prelude.{◌≡◌, ℕ, zero, suc, Bool, true, List, [], ◌∷◌, length, Some, Err, ◌⊎◌, refl}
 use Rattle.std.proofs.Common.{sym, ◌∙◌, ap, inl, inr, arith}
 use Rattle.std.proofs.lemmas.Bool.Decides.{Decides-eqb}
 use Rattle.evo_base.specs.declared.place.Place.{Place}
@@ -18,19 +18,20 @@ use Rattle.evo_tree.specs.declared.terminal.Role.TheVariants as role
 use Rattle.evo_tree.specs.Terminals.{number_of}
 use Rattle.evo_tree.specs.Pieces.{Piece, is_terminal, has_role, role_number, sign}
 use Rattle.evo_tree.specs.Expressions.{Rule, Nested, Levels, UnaryOf, Postfix, Unary, IsExpr}
-use Rattle.evo_tree.specs.Statements.{is_later, Later, IsCall, IsStmt, IsBlock, IsStatement}
+use Rattle.evo_tree.specs.Statements.{is_later, Later, IsCall, IsStmt, IsBlock}
 use Rattle.evo_parse_expr.specs.Read.{Reader, unary, expr}
 use Rattle.evo_parse_expr.proofs.Tests.{Stop, First, first_opens, sign_opens, sign_role, opens_primary, same_terminal}
 use Rattle.evo_parse_expr.proofs.ReadsRule.{Ready, begins_nested, begins_post, begins_levels, some_expr, begins_expr, named_expr, some_unary, right_unary, right_expr, right_called, some_call}
 use Rattle.evo_parse_expr.proofs.More.{expr_grammar, deeper_called, deeper_unary}
-use Rattle.evo_parse_stmt.specs.Read.{call, stmt, block, statement}
-use Rattle.evo_parse_stmt.proofs.Tests.{is_terminal_number, number_is_terminal, a_piece, a_place, mark_takes}
+use Rattle.evo_parse_stmt.specs.Read.{call, stmt, block}
+use Rattle.evo_parse_expr.proofs.Tests.{is_number, number_is}
+use Rattle.evo_parse_stmt.proofs.Tests.{a_piece, a_place, mark_takes}
 use Rattle.evo_combinators.proofs.Nesting.{Nest}
 use Rattle.evo_tree.specs.Pieces.{opens_nesting}
 use Rattle.evo_parse_expr.proofs.Nesting.{ReadsInner, nest_expr, nest_unary, nest_called}
 use Rattle.evo_parse_stmt.proofs.Fits.{Fits, lift}
 use Rattle.evo_parse_stmt.proofs.Follows.{AfterStmt, Fresh}
-use Rattle.evo_parse_stmt.proofs.ReadsRule.{Statement, law_later, fits_block}
+use Rattle.evo_parse_stmt.proofs.ReadsRule.{Statement, fits_block}
 use Rattle.evo_parse_stmt.proofs.Productions.{tail_stmt}
 use Rattle.evo_parse_stmt.proofs.Blocked.{blocked}
 
@@ -105,8 +106,8 @@ some_later inits d = (a_break ∷ [], s.Break a_place, (a_break, [], refl, refl,
 
 own_blocked : (d : ℕ) (k : Terminal) → (number_of k ≡ number_of t.SelfValue) ⊎ (number_of k ≡ number_of t.Super) → (u v w : Piece) (us : List Piece) →
     is_terminal k u ≡ true → is_terminal t.Dot v ≡ true → is_terminal t.Init w ≡ true → expr d (u ∷ (v ∷ (w ∷ us))) ≡ Err (Grammar (suc (length us)))
-own_blocked d k (inl own) u v w us is = blocked d u v w us (inl (number_is_terminal t.SelfValue u (is_terminal_number k u is ∙ own)))
-own_blocked d k (inr own) u v w us is = blocked d u v w us (inr (number_is_terminal t.Super u (is_terminal_number k u is ∙ own)))
+own_blocked d k (inl own) u v w us is = blocked d u v w us (inl (number_is t.SelfValue u (is_number k u is ∙ own)))
+own_blocked d k (inr own) u v w us is = blocked d u v w us (inr (number_is t.Super u (is_number k u is ∙ own)))
 
 lift_statement : (inits : Bool) (d : ℕ) → Statement d (IsStmt inits d) (IsStmt inits (suc d)) (stmt inits d) (stmt inits (suc d)) → Statement (suc d) (IsStmt inits d) (IsStmt inits (suc d)) (stmt inits d) (stmt inits (suc d))
 lift_statement inits d laws = record {
@@ -140,13 +141,6 @@ fits_blocks inits (suc d) = fits_block (suc d) (IsStmt inits d) (IsStmt inits (s
 pub block_grammar : (inits : Bool) → GrammarOf Anything (IsBlock inits) (block inits)
 block_grammar inits = record { right = λ d. (fits_blocks inits d).law.right; deeper = λ d. (fits_blocks inits d).law.deeper }
 
-pub statement_grammar : (first : Bool) → GrammarOf AfterStmt (IsStatement first) (statement first)
-statement_grammar true = stmt_grammar false
-statement_grammar false = record {
-  right = λ d. (law_later d (IsStmt false d) (IsStmt false (suc d)) (stmt false d) (stmt false (suc d)) (laws false d)).right;
-  deeper = λ d. (law_later d (IsStmt false d) (IsStmt false (suc d)) (stmt false d) (stmt false (suc d)) (laws false d)).deeper;
-}
-
 -- ---- which tokens open a nesting
 
 pub nest_stmt : (inits : Bool) (d n : ℕ) → ReadsInner d n (IsStmt inits d) (stmt inits d)
@@ -154,7 +148,3 @@ nest_stmt inits d = (laws inits d).tail.fits.law.nest
 
 pub nest_block : (inits : Bool) (d n : ℕ) → ReadsInner d n (IsBlock inits d) (block inits d)
 nest_block inits d = (fits_blocks inits d).law.nest
-
-pub nest_statement : (first : Bool) (d n : ℕ) → ReadsInner d n (IsStatement first d) (statement first d)
-nest_statement true d = nest_stmt false d
-nest_statement false d = (law_later d (IsStmt false d) (IsStmt false (suc d)) (stmt false d) (stmt false (suc d)) (laws false d)).nest

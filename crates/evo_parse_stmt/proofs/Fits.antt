@@ -18,13 +18,17 @@ use Rattle.evo_tree.specs.declared.name.Identifier.{Identifier}
 use Rattle.evo_tree.specs.declared.terminal.Terminal.{Terminal}
 use Rattle.evo_tree.specs.declared.terminal.Terminal.TheVariants as t
 use Rattle.evo_parse_expr.specs.Read.{Reader, opens}
-use Rattle.evo_combinators.proofs.Nesting.{nest_pure, nest_refuse, nest_then, nest_quiet, nest_led, nest_many, nest_by}
+use Rattle.evo_combinators.proofs.Nesting.{nest_pure, nest_refuse, nest_then, nest_alt, nest_quiet, nest_led, nest_many, nest_by}
 use Rattle.evo_combinators.proofs.NestingTries.{nest_made, nest_attempt, nest_ahead, nest_tries}
 use Rattle.evo_tree.specs.Pieces.{opens_nesting}
 use Rattle.evo_tree.specs.Terminals.{number_of}
 use Rattle.evo_parse_expr.proofs.Tests.{is_quiet, quiet_mark, quiet_number}
 use Rattle.evo_parse_expr.proofs.Nesting.{May, ReadsInner, Under, nest_opens, identifier_quiet}
-use Rattle.evo_parse_stmt.proofs.Tests.{among, or_cases, and_cases, is_number, disjoint, code, Codes, apart, among_append, among_behind, a_piece, a_place, mark_takes, identifier_takes}
+use Rattle.evo_parse_expr.proofs.Among.{among, disjoint, apart, among_append, among_behind}
+use Rattle.evo_parse_expr.proofs.Tests.{and_both}
+use Rattle.std.proofs.lemmas.Bool.{or_cases}
+use Rattle.std.proofs.Common.{eqb-true}
+use Rattle.evo_parse_stmt.proofs.Tests.{code, Codes, a_piece, a_place, mark_takes, identifier_takes}
 
 -- the reader reads the rule, and with more nesting the other ones go together so too
 pub record Law {A : Type 0} (d : ℕ) (Stop : Option Piece → Type 0) (S S' : Rule A) (p p' : Reader A) : Type 0 where
@@ -49,8 +53,8 @@ all_quiet (j ∷ js) = is_quiet j && all_quiet js
 quiet_among : (js : List ℕ) (n : ℕ) → all_quiet js ≡ true → among js n ≡ true → is_quiet n ≡ true
 quiet_among [] n all is = absurd cc
 quiet_among (j ∷ js) n all is = elim (or_cases (n == j) (among js n) is) [
-  | inl same ↦ ap is_quiet (is_number n j same) ∙ (and_cases (is_quiet j) (all_quiet js) all).0
-  | inr more ↦ quiet_among js n (and_cases (is_quiet j) (all_quiet js) all).1 more
+  | inl same ↦ ap is_quiet (eqb-true n j same) ∙ (and_both (is_quiet j) (all_quiet js) all).0
+  | inr more ↦ quiet_among js n (and_both (is_quiet j) (all_quiet js) all).1 more
 ]
 
 pub quiet_by : {A : Type 0} (f : Piece → Option A) (js : List ℕ) → all_quiet js ≡ true → Codes js f → Quiet f
@@ -148,19 +152,36 @@ fits_name ended fits = fits_led identifier identifier_quiet (a_piece t.Identifie
 
 -- ---- by the first token
 
+-- the first token opens no nesting, or what it leads is spelled with so much
+abbrev pub Leading : {A B : Type 0} → ℕ → (Piece → Option A) → (A → Rule B) → Type 0
+Leading {A} d f S = (t : Piece) (a : A) → f t ≡ Some a → opens_nesting t ≡ true → May d × SomeOf (S a)
+
+quiet_leads : {A B : Type 0} (d : ℕ) (f : Piece → Option A) (S : A → Rule B) → Quiet f → Leading d f S
+quiet_leads d f S quiet t a takes is = absurd (quiet t a takes is)
+
+law_by : {d : ℕ} {A B : Type 0} {Stop : Option Piece → Type 0} {S S' : A → Rule B} {R R' : Rule B} {q q' : A → Reader B} {r r' : Reader B} (f : Piece → Option A) → Leading d f S →
+    ((us rest : List Piece) (b : B) → R us b → Stop (first rest) → Skips f (us ++ rest)) →
+    ((a : A) → Fits d Stop (S a) (S' a) (q a) (q' a)) → Law d Stop R R' r r' → Law d Stop (Or (TokenThen f S) R) (Or (TokenThen f S') R') (alt f q r) (alt f q' r')
+law_by {d} {A} {B} {Stop} {S} {S'} {R} {R'} {q} {q'} {r} {r'} f leading skips fits other = record {
+  right = λ n. right_alt_by n Stop f S S' R R' q r (λ a. (fits a).law.right (n - 1)) (other.right n) (λ a. (fits a).some) skips;
+  deeper = deeper_alt f q q' r r' (λ a. (fits a).law.deeper) other.deeper;
+  nest = λ n. nest_alt (May d) opens_nesting n f S R q r (λ a. (fits a).law.nest (n - 1)) (other.nest n) leading;
+}
+
 pub law_alt : {d : ℕ} {A B : Type 0} {Stop : Option Piece → Type 0} {S S' : A → Rule B} {R R' : Rule B} {q q' : A → Reader B} {r r' : Reader B} (f : Piece → Option A) → Quiet f →
     ((us rest : List Piece) (b : B) → R us b → Stop (first rest) → Skips f (us ++ rest)) →
     ((a : A) → Fits d Stop (S a) (S' a) (q a) (q' a)) → Law d Stop R R' r r' → Law d Stop (Or (TokenThen f S) R) (Or (TokenThen f S') R') (alt f q r) (alt f q' r')
-law_alt {d} {A} {B} {Stop} {S} {S'} {R} {R'} {q} {q'} {r} {r'} f quiet skips fits other = record {
-  right = λ n. right_alt_by n Stop f S S' R R' q r (λ a. (fits a).law.right (n - 1)) (other.right n) (λ a. (fits a).some) skips;
-  deeper = deeper_alt f q q' r r' (λ a. (fits a).law.deeper) other.deeper;
-  nest = λ n. nest_quiet (May d) opens_nesting n f S R q r quiet (λ a. (fits a).law.nest (n - 1)) (other.nest n);
-}
+law_alt {d} {A} {B} {Stop} {S} f quiet skips fits other = law_by f (quiet_leads d f S quiet) skips fits other
+
+fits_by : {d : ℕ} {A B : Type 0} {Stop : Option Piece → Type 0} {S S' : A → Rule B} {R R' : Rule B} {q q' : A → Reader B} {r r' : Reader B} (f : Piece → Option A) → Leading d f S →
+    ((us rest : List Piece) (b : B) → R us b → Stop (first rest) → Skips f (us ++ rest)) →
+    ((a : A) → Fits d Stop (S a) (S' a) (q a) (q' a)) → Fits d Stop R R' r r' → Fits d Stop (Or (TokenThen f S) R) (Or (TokenThen f S') R') (alt f q r) (alt f q' r')
+fits_by f leading skips fits other = record { law = law_by f leading skips fits other.law; some = let (us, b, s) = other.some in (us, b, inr s); here = λ held. let (us, b, s) = other.here held in (us, b, inr s) }
 
 pub fits_alt : {d : ℕ} {A B : Type 0} {Stop : Option Piece → Type 0} {S S' : A → Rule B} {R R' : Rule B} {q q' : A → Reader B} {r r' : Reader B} (f : Piece → Option A) → Quiet f →
     ((us rest : List Piece) (b : B) → R us b → Stop (first rest) → Skips f (us ++ rest)) →
     ((a : A) → Fits d Stop (S a) (S' a) (q a) (q' a)) → Fits d Stop R R' r r' → Fits d Stop (Or (TokenThen f S) R) (Or (TokenThen f S') R') (alt f q r) (alt f q' r')
-fits_alt f quiet skips fits other = record { law = law_alt f quiet skips fits other.law; some = let (us, b, s) = other.some in (us, b, inr s); here = λ held. let (us, b, s) = other.here held in (us, b, inr s) }
+fits_alt {d} {A} {B} {Stop} {S} f quiet skips fits other = fits_by f (quiet_leads d f S quiet) skips fits other
 
 under_of : {A : Type 0} (d n : ℕ) (Stop : Option Piece → Type 0) (S S' : Rule A) (p p' : Reader A) → Below d Stop S S' p p' → Under d n S p
 under_of zero n Stop S S' p p' below = tt
@@ -273,12 +294,12 @@ pub record Tail {A : Type 0} (d : ℕ) (Stop : Option Piece → Type 0) (extra :
   pub fits : Fits d Stop R R' r r'
   pub begins : Begins (Leads extra ks) R'
 
-pub tail_alt : {d : ℕ} {A B : Type 0} {Stop : Option Piece → Type 0} {extra : Piece → Type 0} {ks : List ℕ} {S S' : A → Rule B} {R R' : Rule B} {q q' : A → Reader B} {r r' : Reader B}
-    (f : Piece → Option A) (js : List ℕ) → Codes js f → Quiet f → disjoint js ks ≡ true → ((t : Piece) → extra t → among js (code t) ≡ true → ⊥) →
+pub tail_by : {d : ℕ} {A B : Type 0} {Stop : Option Piece → Type 0} {extra : Piece → Type 0} {ks : List ℕ} {S S' : A → Rule B} {R R' : Rule B} {q q' : A → Reader B} {r r' : Reader B}
+    (f : Piece → Option A) (js : List ℕ) → Codes js f → Leading d f S → disjoint js ks ≡ true → ((t : Piece) → extra t → among js (code t) ≡ true → ⊥) →
     ((a : A) → Fits d Stop (S a) (S' a) (q a) (q' a)) → Tail d Stop extra ks R R' r r' →
     Tail d Stop extra (js ++ ks) (Or (TokenThen f S) R) (Or (TokenThen f S') R') (alt f q r) (alt f q' r')
-tail_alt {d} {A} {B} {Stop} {extra} {ks} {S} {S'} {R} {R'} {q} {q'} {r} {r'} f js codes quiet far other fits tail = record {
-  fits = fits_alt f quiet (λ us rest b s stop. begins_skips (Leads extra ks) f R (begun_law tail.fits.law tail.begins) clash us rest b s) fits tail.fits;
+tail_by {d} {A} {B} {Stop} {extra} {ks} {S} {S'} {R} {R'} {q} {q'} {r} {r'} f js codes leading far other fits tail = record {
+  fits = fits_by f leading (λ us rest b s stop. begins_skips (Leads extra ks) f R (begun_law tail.fits.law tail.begins) clash us rest b s) fits tail.fits;
   begins = begins_or (Leads extra (js ++ ks)) (TokenThen f S') R' (begins_led (Leads extra (js ++ ks)) f S' (λ t a takes. inl (among_append js ks (code t) (codes t a takes))))
       (begins_as (Leads extra ks) (Leads extra (js ++ ks)) R' (λ t h. elim h [ inl is ↦ inl (among_behind js ks (code t) is) | inr e ↦ inr e ]) tail.begins);
 }
@@ -286,6 +307,12 @@ tail_alt {d} {A} {B} {Stop} {extra} {ks} {S} {S'} {R} {R'} {q} {q'} {r} {r'} f j
     clash : (t : Piece) (a : A) → Leads extra ks t → f t ≡ Some a → ⊥
     clash t a (inl is) takes = apart js ks (code t) far (codes t a takes) is
     clash t a (inr e) takes = other t e (codes t a takes)
+
+pub tail_alt : {d : ℕ} {A B : Type 0} {Stop : Option Piece → Type 0} {extra : Piece → Type 0} {ks : List ℕ} {S S' : A → Rule B} {R R' : Rule B} {q q' : A → Reader B} {r r' : Reader B}
+    (f : Piece → Option A) (js : List ℕ) → Codes js f → Quiet f → disjoint js ks ≡ true → ((t : Piece) → extra t → among js (code t) ≡ true → ⊥) →
+    ((a : A) → Fits d Stop (S a) (S' a) (q a) (q' a)) → Tail d Stop extra ks R R' r r' →
+    Tail d Stop extra (js ++ ks) (Or (TokenThen f S) R) (Or (TokenThen f S') R') (alt f q r) (alt f q' r')
+tail_alt {d} {A} {B} {Stop} {extra} {ks} {S} f js codes quiet far other fits tail = tail_by f js codes (quiet_leads d f S quiet) far other fits tail
 
 pub tail_last : {d : ℕ} {A B : Type 0} {Stop : Option Piece → Type 0} {extra : Piece → Type 0} {S S' : A → Rule B} {r r' : Reader B} (f : Piece → Option A) (js : List ℕ) → Codes js f →
     Fits d Stop (TokenThen f S) (TokenThen f S') r r' → Tail d Stop extra js (TokenThen f S) (TokenThen f S') r r'

@@ -12,7 +12,9 @@ use Rattle.evo_tree.specs.Terminals.{number_of}
 use Rattle.evo_tree.specs.Pieces.{Piece, mark, has_role}
 use Rattle.evo_tree.specs.Statements.{assigns_to, is_here, is_below, is_later}
 use Rattle.evo_parse_expr.proofs.Tests.{rank_at, rank, infix_rank, if_between, Stop, same_terminal, opens_expr, Opens}
-use Rattle.evo_parse_stmt.proofs.Tests.{among, apart, not_among, disjoint, within, widened, code, among_at, assigning_codes, assigns_codes, mark_number, number_is_terminal}
+use Rattle.evo_parse_expr.proofs.Among.{among, apart, not_among, disjoint, within, widened, among_at}
+use Rattle.evo_parse_expr.proofs.Tests.{mark_number, number_is}
+use Rattle.evo_parse_stmt.proofs.Tests.{code, assigning_codes, assigns_codes}
 use Rattle.evo_parse_stmt.proofs.Fits.{Leads}
 
 -- ---- terminals
@@ -226,7 +228,7 @@ starts_not k no_lead no_expr p (inr fresh) is = not_among expression_codes (code
 
 pub later_no_dot : (p : Piece) → is_later p ≡ true → code p ≡ number_of t.Dot → ⊥
 unfolding is_later
-later_no_dot p is dot = let bad = sym is ∙ ap not (number_is_terminal t.Dot p dot) in cc
+later_no_dot p is dot = let bad = sym is ∙ ap not (number_is t.Dot p dot) in cc
 
 pub below_is : (p : Piece) → is_below p ≡ true → p.below ≡ true
 unfolding is_below

@@ -1,12 +1,12 @@
 -- The readers of patterns read their rules.
-use Rattle.std.specs.Prelude.{◌≡◌, ℕ, zero, suc, ◌-◌, ◌^◌, true, false, List, [], ◌∷◌, ◌++◌, Option, Some, None, refl}
+use Rattle.std.specs.Prelude.{◌≡◌, ℕ, zero, suc, ◌-◌, ◌^◌, true, false, List, [], ◌∷◌, ◌++◌, Option, Some, None, refl, codes}
 use Rattle.std.proofs.Common.{sym, ◌∙◌, ap, subst, inl, inr}
 use Rattle.evo_base.specs.declared.place.Place.{Place}
-use Rattle.evo_combinators.specs.Rule.{Empty, TokenThen, One, Then, Many}
+use Rattle.evo_combinators.specs.Rule.{Empty, TokenThen, One, Then, Many, SomeOf}
 use Rattle.evo_combinators.specs.Reader.{◌>>=◌, pure, one, many}
 use Rattle.evo_combinators.specs.Laws.{first}
 use Rattle.evo_combinators.proofs.Laws.{begins_led, of_map, stop_skips}
-use Rattle.evo_combinators.proofs.Sequences.{Anything}
+use Rattle.evo_combinators.proofs.Sequences.{Anything, some_only, some_led}
 use Rattle.evo_tree.specs.declared.name.Identifier.{Identifier}
 use Rattle.evo_tree.specs.declared.statement.Binding.{Binding}
 use Rattle.evo_tree.specs.declared.statement.Pattern.{Pattern}
@@ -14,16 +14,18 @@ use Rattle.evo_tree.specs.declared.statement.Pattern.TheVariants as tree
 use Rattle.evo_tree.specs.declared.terminal.Terminal.{Terminal}
 use Rattle.evo_tree.specs.declared.terminal.Terminal.TheVariants as t
 use Rattle.evo_tree.specs.Terminals.{number_of}
-use Rattle.evo_tree.specs.Pieces.{Piece, mark, identifier, integer, string, negative}
+use Rattle.evo_tree.specs.Pieces.{Piece, mark, identifier, integer, string}
 use Rattle.evo_tree.specs.Types.{type_head}
 use Rattle.evo_tree.specs.Expressions.{Rule}
-use Rattle.evo_tree.specs.Statements.{binding, path_of, case_of_type, BindingPattern, PayloadPattern, Subs, PayloadTail, Payload, Path, Magnitude, IsPattern}
+use Rattle.evo_tree.specs.Statements.{attached_minus, binding, path_of, case_of_type, BindingPattern, PayloadPattern, Subs, PayloadTail, Payload, Path, Magnitude, IsPattern}
 use Rattle.evo_parse_expr.specs.Read.{Reader}
 use Rattle.evo_parse_stmt.specs.Read.{binder, sub, subs, rest_of_payload, payload, path, magnitude, implicit, typed, pattern}
-use Rattle.evo_parse_stmt.proofs.Tests.{among, code, mark_number, mark_codes, identifier_codes, type_head_codes, negative_codes, integer_codes, string_codes, a_piece, a_place, identifier_takes, integer_takes}
-use Rattle.evo_parse_expr.proofs.Tests.{quiet_mark, negative_quiet, parenthesis_opens}
+use Rattle.evo_parse_expr.proofs.Among.{among}
+use Rattle.evo_parse_expr.proofs.Tests.{mark_number}
+use Rattle.evo_parse_stmt.proofs.Tests.{code, mark_codes, identifier_codes, type_head_codes, attached_codes, integer_codes, string_codes, a_piece, a_place, identifier_takes, integer_takes}
+use Rattle.evo_parse_expr.proofs.Tests.{quiet_mark, parenthesis_opens}
 use Rattle.evo_parse_expr.proofs.Nesting.{identifier_quiet}
-use Rattle.evo_parse_stmt.proofs.Fits.{Quiet, quiet_by, Fits, Below, Tail, fits_stop, fits_pure, fits_then, fits_next, fits_map, fits_one, fits_led, fits_mark, fits_name, fits_many, law_opens, tail_alt, tail_last, begun_follows}
+use Rattle.evo_parse_stmt.proofs.Fits.{Quiet, quiet_by, Fits, Below, Tail, lift, fits_stop, fits_pure, fits_then, fits_next, fits_map, fits_one, fits_led, fits_mark, fits_name, fits_many, law_opens, tail_by, tail_alt, tail_last, begun_follows}
 use Rattle.evo_parse_stmt.proofs.Follows.{Without, without_less, without_at}
 
 -- nothing else
@@ -135,11 +137,12 @@ payload_follows (suc d) vs rest bs (inr (none, is)) stop = subst (λ (z : List P
 made_follows : (d : ℕ) (g : Option (List Binding) → Pattern) (vs rest : List Piece) (x : Pattern) → Then (Payload d) (λ bs. Empty (g bs)) vs x → AfterPattern (first rest) → Without dot (first (vs ++ rest))
 made_follows d g vs rest x s stop = let (bs, r, is) = of_map (Payload d) g vs x s in payload_follows d vs rest bs r stop
 
+-- in braces
 fits_after : (d : ℕ) (g : Option (List Binding) → Pattern) →
-    Fits d AfterPattern (Then (Payload d) (λ bs. Empty (g bs))) (Then (Payload (suc d)) (λ bs. Empty (g bs))) (payload d >>= (λ bs. pure (g bs))) (payload (suc d) >>= (λ bs. pure (g bs)))
-fits_after d g = fits_stop to_payload refl (fits_map g (fits_payload d))
+    Fits (suc d) AfterPattern (Then (Payload d) (λ bs. Empty (g bs))) (Then (Payload (suc d)) (λ bs. Empty (g bs))) (payload d >>= (λ bs. pure (g bs))) (payload (suc d) >>= (λ bs. pure (g bs)))
+fits_after d g = fits_stop to_payload refl (fits_map g (lift ([], None, inr (refl, refl)) (fits_payload d)))
 
--- ---- patterns
+-- ---- patterns in braces
 
 module _ (d : ℕ) where
   abbrev Implicit : ℕ → Place → Rule Pattern
@@ -148,24 +151,27 @@ module _ (d : ℕ) where
   abbrev Typed : ℕ → Place × List ℕ → Rule Pattern
   Typed f head = Then (Path head) (λ path. Then (Payload f) (λ bs. Empty (case_of_type path head.0 bs)))
 
-  fits_implicit : (p : Place) → Fits d AfterPattern (Implicit d p) (Implicit (suc d) p) (implicit d p) (implicit (suc d) p)
+  fits_implicit : (p : Place) → Fits (suc d) AfterPattern (Implicit d p) (Implicit (suc d) p) (implicit d p) (implicit (suc d) p)
   unfolding implicit
   fits_implicit p = fits_name refl (λ n. fits_after d (λ bs. tree.Case p None n bs))
 
-  fits_typed : (head : Place × List ℕ) → Fits d AfterPattern (Typed d head) (Typed (suc d) head) (typed d head) (typed (suc d) head)
+  fits_typed : (head : Place × List ℕ) → Fits (suc d) AfterPattern (Typed d head) (Typed (suc d) head) (typed d head) (typed (suc d) head)
   unfolding typed
-  fits_typed head = fits_then refl (λ path vs rest x s stop. made_follows d (λ bs. case_of_type path head.0 bs) vs rest x s stop) (fits_path d head) (λ path. fits_after d (λ bs. case_of_type path head.0 bs))
+  fits_typed head = fits_then refl (λ path vs rest x s stop. made_follows d (λ bs. case_of_type path head.0 bs) vs rest x s stop) (fits_path (suc d) head) (λ path. fits_after d (λ bs. case_of_type path head.0 bs))
 
-  fits_magnitude : (p : Place) → Fits d AfterPattern (Magnitude p) (Magnitude p) (magnitude p) (magnitude p)
+  fits_magnitude : (p : Place) → Fits (suc d) AfterPattern (Magnitude p) (Magnitude p) (magnitude p) (magnitude p)
   unfolding magnitude
   fits_magnitude p = fits_led (integer (2 ^ 63)) (integer_quiet (2 ^ 63)) _ _ integer_takes refl (λ v. fits_pure refl (tree.Negative p v.1))
 
-  pub fits_pattern : Fits d AfterPattern (IsPattern d) (IsPattern (suc d)) (pattern d) (pattern (suc d))
+  some_magnitude : (p : Place) → SomeOf (Magnitude p)
+  some_magnitude p = some_led (integer (2 ^ 63)) (λ v. Empty (tree.Negative p v.1)) (a_piece t.Integer (codes "0")) (a_place, 0) integer_takes (some_only (tree.Negative p 0))
+
+  pub fits_pattern : Fits (suc d) AfterPattern (IsPattern d) (IsPattern (suc d)) (pattern d) (pattern (suc d))
   unfolding pattern
   fits_pattern =
       (tail_alt (mark t.Dot) (number_of t.Dot ∷ []) (mark_codes t.Dot) (quiet_mark t.Dot refl) refl (λ p never is. never) fits_implicit
       (tail_alt type_head (number_of t.Identifier ∷ number_of t.SelfType ∷ []) type_head_codes type_head_quiet refl (λ p never is. never) fits_typed
-      (tail_alt negative (number_of t.Minus ∷ []) negative_codes negative_quiet refl (λ p never is. never) fits_magnitude
+      (tail_by attached_minus (number_of t.Minus ∷ []) attached_codes (λ p a takes is. (tt, some_magnitude a)) refl (λ p never is. never) fits_magnitude
       (tail_alt (integer (2 ^ 63 - 1)) (number_of t.Integer ∷ []) (integer_codes (2 ^ 63 - 1)) (integer_quiet (2 ^ 63 - 1)) refl (λ p never is. never) (λ v. fits_pure refl (tree.Integer v.0 v.1))
       (tail_alt string (number_of t.String ∷ []) string_codes string_quiet refl (λ p never is. never) (λ v. fits_pure refl (tree.String v.0 v.1))
       (tail_alt (mark t.True) (number_of t.True ∷ []) (mark_codes t.True) (quiet_mark t.True refl) refl (λ p never is. never) (λ p. fits_pure refl (tree.Boolean p true))

@@ -26,7 +26,7 @@ use Rattle.evo_tree.specs.Pieces.{Piece, is_terminal, mark}
 use Rattle.evo_tree.specs.Expressions.{Rule}
 use Rattle.evo_tree.specs.Types.{IsType}
 use Rattle.evo_tree.specs.Statements as grammar
-use Rattle.evo_tree.specs.Statements.{introduces, is_here, is_later, assigns_to, is_last_branch, less, Later, BlockTail, BlockOf, ClausesTail, ClausesOf, Annotation, LocalTail, DiscardTail, Branch, BehindElse, IfTail, WhileTail, Value, ReturnTail, SwitchTail, InitTail, AssignmentTail, Action, ActionOf, StmtOf}
+use Rattle.evo_tree.specs.Statements.{introduces, is_here, assigns_to, is_last_branch, less, BlockTail, BlockOf, ClausesTail, Annotation, LocalTail, DiscardTail, Branch, BehindElse, IfTail, WhileTail, ReturnTail, SwitchTail, InitTail, AssignmentTail, Action, ActionOf, StmtOf}
 use Rattle.evo_parse_expr.specs.Read.{Reader, type_of}
 use Rattle.evo_combinators.specs.Rule.{One, Many}
 use Rattle.evo_combinators.specs.Reader.{many}
@@ -38,7 +38,9 @@ use Rattle.evo_parse_expr.proofs.Nesting.{May, ReadsInner}
 use Rattle.evo_parse_expr.proofs.ReadsRule.{right_type, some_type, NoDot}
 use Rattle.evo_combinators.proofs.GrowsWithNesting.{same_refl}
 use Rattle.evo_parse_stmt.specs.Read.{block_of, annotation, rest_of_local, rest_of_discard, branch, behind_else, else_at, rest_of_if, rest_of_while, value_here, rest_of_return, rest_of_switch, self_init, super_init, rest_of_assignment, action, action_of, leaving, stmt_of}
-use Rattle.evo_parse_stmt.proofs.Tests.{among, disjoint, code, introducing, introduces_codes, assigning_codes, assigns_codes, type_head_takes, plain_takes, mark_of, mark_is, mark_number, mark_codes, is_terminal_number, a_piece, a_place}
+use Rattle.evo_parse_expr.proofs.Among.{among, disjoint}
+use Rattle.evo_parse_expr.proofs.Tests.{mark_is, mark_number, is_number}
+use Rattle.evo_parse_stmt.proofs.Tests.{code, introducing, introduces_codes, assigning_codes, assigns_codes, type_head_takes, plain_takes, mark_of, mark_codes, a_piece, a_place}
 use Rattle.evo_parse_stmt.proofs.Fits.{Quiet, quiet_by, Law, Fits, Tail, Leads, fits_one, fits_many, fits_stop, fits_pure, law_nothing, fits_then, fits_next, fits_map, fits_mark, fits_name, fits_alt, law_ahead, fits_attempt, fits_tries, tail_alt}
 use Rattle.evo_parse_stmt.proofs.Follows.{AfterStmt, Fresh, leading, expression_codes, fresh_apart, fresh_mark, here_is, after_six, operator_six, Without, without_at}
 use Rattle.evo_parse_stmt.proofs.Patterns.{without_no, mark_follows, type_head_quiet}
@@ -82,7 +84,7 @@ no_dot None stop = refl
 no_dot (Some p) stop = go (is_terminal t.Dot p) refl
   where
     go : (b : Bool) → is_terminal t.Dot p ≡ b → b ≡ false
-    go true is = let bad = sym stop ∙ ap (among (number_of t.Colon ∷ number_of t.Dot ∷ [])) (is_terminal_number t.Dot p is) in absurd cc
+    go true is = let bad = sym stop ∙ ap (among (number_of t.Colon ∷ number_of t.Dot ∷ [])) (is_number t.Dot p is) in absurd cc
     go false is = refl
 
 fits_type_names : (d : ℕ) → Fits d NoDot TypeNames TypeNames (many (mark t.Dot) (λ _. one plain_name)) (many (mark t.Dot) (λ _. one plain_name))
@@ -288,7 +290,7 @@ module _ (inits : Bool) (d : ℕ) (E E' : Rule Expr) (e e' : Reader Expr) (A A' 
       ∙ blocked_action t.SelfValue (inl refl) u v w us is is' is''
     where
       other : (b : Bool) → is_terminal t.Super u ≡ b → b ≡ false
-      other true both = let bad = sym (is_terminal_number t.SelfValue u is) ∙ is_terminal_number t.Super u both in absurd (omega (arith, bad))
+      other true both = let bad = sym (is_number t.SelfValue u is) ∙ is_number t.Super u both in absurd (omega (arith, bad))
       other false both = refl
 
   tail_action : (own : Bool) → Tail d AfterStmt Fresh [] (ActionOf inits d E A S own) (ActionOf inits (suc d) E' A' S' own) (action_of inits d e a p own) (action_of inits (suc d) e' a' p' own)

@@ -10,7 +10,6 @@ use Rattle.evo_combinators.specs.Laws.{Begins, first, Skips}
 use Rattle.evo_combinators.proofs.Laws.{begins_or, begins_nothing, begins_then, begins_as, begins_skips, many_first, of_map}
 use Rattle.evo_combinators.proofs.Sequences.{Anything}
 use Rattle.evo_tree.specs.declared.statement.Pattern.{Pattern}
-use Rattle.evo_tree.specs.declared.statement.Pattern.TheVariants as tree
 use Rattle.evo_tree.specs.declared.statement.ClauseLabel.TheVariants as kind
 use Rattle.evo_tree.specs.declared.statement.Clause.{Clause}
 use Rattle.evo_tree.specs.declared.statement.Stmt.{Stmt}
@@ -19,16 +18,18 @@ use Rattle.evo_tree.specs.Terminals.{number_of}
 use Rattle.evo_tree.specs.Pieces.{Piece, is_terminal, mark, word}
 use Rattle.evo_tree.specs.Expressions.{Rule, Nested}
 use Rattle.evo_tree.specs.Statements as grammar
-use Rattle.evo_tree.specs.Statements.{introduces, is_here, is_below, is_later, assigns_to, is_last_clause, is_last_branch, no_longer_first, less, IsPattern, Later, Statements, SomeStatements, BlockTail, BlockOf, Patterns, Label, IsClause, ClausesTail, ClausesOf, Annotation, LocalTail, DiscardTail, Branch, BehindElse, IfTail, WhileTail, Value, ReturnTail, SwitchTail, InitTail, AssignmentTail, Action, ActionOf, StmtOf}
+use Rattle.evo_tree.specs.Statements.{is_below, is_later, is_last_clause, no_longer_first, less, IsPattern, Later, Statements, SomeStatements, BlockTail, BlockOf, Patterns, Label, IsClause, ClausesTail, ClausesOf}
 use Rattle.evo_parse_expr.specs.Read.{Reader, opens}
 use Rattle.std.specs.Prelude.{◌||◌, is_some}
 use Rattle.evo_tree.specs.Pieces.{sign, opens_nesting}
 use Rattle.evo_parse_expr.proofs.Tests.{Stop, quiet_mark, quiet_number, word_number}
 use Rattle.evo_parse_expr.proofs.Nesting.{May}
 use Rattle.evo_parse_expr.proofs.ReadsRule.{begins_nested}
-use Rattle.evo_parse_stmt.specs.Read.{pattern, patterns, unknown, label, later, further, statement_at, statements, some_statements, rest_of_block, block_of, clause, clause_at, rest_of_clauses, clauses_of}
-use Rattle.evo_parse_stmt.proofs.Tests.{among, widened, not_among, code, mark_is, mark_number, mark_codes, a_piece, a_place, mark_takes, word_takes}
-use Rattle.evo_parse_stmt.proofs.Fits.{Law, Fits, Below, Tail, lift, Leads, fits_pure, law_nothing, fits_then, fits_map, fits_led, fits_mark, law_alt, law_opens, no_skips, fits_many, begun_law, law_ahead, fits_tries, run_follows, begun_follows, tail_alt, tail_last}
+use Rattle.evo_parse_stmt.specs.Read.{patterns, unknown, label, later, further, statement_at, statements, some_statements, rest_of_block, block_of, clause, clause_at, rest_of_clauses, clauses_of}
+use Rattle.evo_parse_expr.proofs.Among.{among, widened, not_among}
+use Rattle.evo_parse_expr.proofs.Tests.{mark_is, mark_number}
+use Rattle.evo_parse_stmt.proofs.Tests.{code, mark_codes, a_piece, a_place, mark_takes, word_takes}
+use Rattle.evo_parse_stmt.proofs.Fits.{Law, Fits, Below, Tail, Leads, fits_pure, law_nothing, fits_then, fits_map, fits_led, fits_mark, law_alt, law_opens, no_skips, fits_many, begun_law, law_ahead, fits_tries, run_follows, begun_follows, tail_alt, tail_last}
 use Rattle.evo_parse_stmt.proofs.Follows.{AfterStmt, Closes, closing, Fresh, leading, Starts, BeginsAt, closes_after, next_after, closes_shut, starts_not, later_no_dot, below_is, six_at, Without, without_less, without_at}
 use Rattle.evo_parse_stmt.proofs.Patterns.{Never, without_no, mark_follows, AfterPattern, fits_pattern}
 
@@ -44,24 +45,17 @@ to_pattern x stop = without_less (number_of t.OpenParenthesis ∷ number_of t.Do
 comma_pattern : (p : Piece) (a : Place) → mark t.Comma p ≡ Some a → AfterPattern (Some p)
 comma_pattern p a takes = without_at (number_of t.OpenParenthesis ∷ number_of t.Dot ∷ []) t.Comma p (mark_number t.Comma p a takes) refl
 
-some_pattern : (d : ℕ) → SomeOf (IsPattern d)
-some_pattern d = (a_piece t.False [] ∷ [], tree.Boolean a_place false, inr (inr (inr (inr (inr (inr (a_piece t.False [], a_place, [], refl, mark_takes t.False, (refl, refl))))))))
-
 abbrev MorePatterns : ℕ → Rule (List Pattern)
 MorePatterns d = Many (mark t.Comma) (λ _. IsPattern d)
-
--- in braces
-inward : (d : ℕ) → Fits (suc d) AfterPattern (IsPattern d) (IsPattern (suc d)) (pattern d) (pattern (suc d))
-inward d = lift (some_pattern d) (fits_pattern d)
 
 fits_patterns : (d : ℕ) → Fits (suc d) AfterLabel (Patterns d) (Patterns (suc d)) (patterns d) (patterns (suc d))
 unfolding patterns
 fits_patterns d = fits_then refl
     (λ x vs rest ys s stop. let (xs, m, is) = of_map (MorePatterns d) (λ xs. x ∷ xs) vs ys s in
     many_first AfterLabel AfterPattern (mark t.Comma) (λ _. IsPattern d) to_pattern comma_pattern vs rest xs m stop)
-    (inward d)
+    (fits_pattern d)
     (λ x. fits_map (λ xs. x ∷ xs)
-    (fits_many (mark t.Comma) (quiet_mark t.Comma refl) refl (without_no (number_of t.Comma ∷ number_of t.OpenParenthesis ∷ number_of t.Dot ∷ []) t.Comma refl) to_pattern comma_pattern (λ _. some_pattern d) (λ _. inward d)))
+    (fits_many (mark t.Comma) (quiet_mark t.Comma refl) refl (without_no (number_of t.Comma ∷ number_of t.OpenParenthesis ∷ number_of t.Dot ∷ []) t.Comma refl) to_pattern comma_pattern (λ _. (fits_pattern d).here tt) (λ _. fits_pattern d)))
 
 fits_unknown : (d : ℕ) (p : Place) → Fits d AfterLabel (TokenThen (word (codes "unknown")) (λ _. TokenThen (mark t.Default) (λ _. Empty (p, kind.UnknownDefault)))) (TokenThen (word (codes "unknown")) (λ _. TokenThen (mark t.Default) (λ _. Empty (p, kind.UnknownDefault)))) (unknown p) (unknown p)
 unfolding unknown

@@ -1,10 +1,10 @@
 -- What the tests of tokens take, by the numbers of the terminals.
-use Rattle.std.specs.Prelude.{◌≡◌, ℕ, ◌^◌, ◌==◌, ◌||◌, ◌&&◌, Bool, true, false, cond, not, List, [], ◌∷◌, ◌++◌, Option, Some, None, ◌⊎◌, refl, codes}
-use Rattle.std.proofs.Common.{sym, ◌∙◌, ap, inl, inr, arith}
+use Rattle.std.specs.Prelude.{◌≡◌, ℕ, ◌^◌, ◌||◌, Bool, true, false, cond, List, [], ◌∷◌, Option, Some, None, refl, codes}
+use Rattle.std.proofs.Common.{ap, inl, inr, arith}
 use Rattle.std.specs.Str.{bytes_eq, is_utf8, IsAscii}
 use Rattle.std.proofs.lemmas.Str.{IsUtf8-from_ascii, is_utf8-from_IsUtf8}
 use Rattle.std.proofs.lemmas.Slice.Eq.{bytes_eq-Decides}
-use Rattle.std.proofs.lemmas.Bool.Decides.{Decides-eqb}
+use Rattle.std.proofs.lemmas.Bool.{or_left, or_right, or_cases}
 use Rattle.evo_base.specs.declared.place.Place.{Place}
 use Rattle.evo_lex.specs.Front.{when}
 use Rattle.evo_tree.specs.declared.expression.Expr.{Expr}
@@ -14,22 +14,11 @@ use Rattle.evo_tree.specs.declared.terminal.Terminal.{Terminal}
 use Rattle.evo_tree.specs.declared.terminal.Terminal.TheVariants as t
 use Rattle.evo_tree.specs.declared.terminal.Role.TheVariants as role
 use Rattle.evo_tree.specs.Terminals.{number_of}
-use Rattle.evo_tree.specs.Pieces.{Piece, is_terminal, has_role, placed, mark, identifier, word, integer, string, negative}
+use Rattle.evo_tree.specs.Pieces.{Piece, is_terminal, has_role, placed, mark, identifier, word, integer, string}
 use Rattle.evo_tree.specs.Types.{type_head, plain_name}
-use Rattle.evo_tree.specs.Statements.{introduced, introduces, assigning, assigns, is_target, assigns_to}
-
--- one of these numbers
-abbrev pub among : List ℕ → ℕ → Bool
-among [] n = false
-among (k ∷ ks) n = n == k || among ks n
-
-abbrev pub disjoint : List ℕ → List ℕ → Bool
-disjoint [] ks = true
-disjoint (j ∷ js) ks = not (among ks j) && disjoint js ks
-
-abbrev pub within : List ℕ → List ℕ → Bool
-within [] ks = true
-within (j ∷ js) ks = among ks j && within js ks
+use Rattle.evo_parse_expr.proofs.Tests.{when_some, and_both, both_and, mark_is}
+use Rattle.evo_parse_expr.proofs.Among.{among, among_alone, same_number}
+use Rattle.evo_tree.specs.Statements.{attached_minus, introduced, introduces, assigning, assigns, is_target, assigns_to}
 
 abbrev pub code : Piece → ℕ
 code p = number_of p.terminal
@@ -38,121 +27,41 @@ code p = number_of p.terminal
 abbrev pub Codes : {A : Type 0} → List ℕ → (Piece → Option A) → Type 0
 Codes {A} js f = (p : Piece) (a : A) → f p ≡ Some a → among js (code p) ≡ true
 
-pub or_cases : (a b : Bool) → (a || b) ≡ true → (a ≡ true) ⊎ (b ≡ true)
-or_cases true b e = inl refl
-or_cases false b e = inr e
-
-or_left : (a b : Bool) → a ≡ true → (a || b) ≡ true
-or_left true b e = refl
-or_left false b e = absurd cc
-
-or_right : (a b : Bool) → b ≡ true → (a || b) ≡ true
-or_right true b e = refl
-or_right false b e = e
-
-pub and_cases : (a b : Bool) → (a && b) ≡ true → (a ≡ true) × (b ≡ true)
-and_cases true b e = (refl, e)
-and_cases false b e = absurd cc
-
-both_and : (a b : Bool) → a ≡ true → b ≡ true → (a && b) ≡ true
-both_and true b e h = h
-both_and false b e h = absurd cc
-
-same_number : (n : ℕ) → (n == n) ≡ true
-same_number n = (Decides-eqb n n).1 refl
-
-pub is_number : (n k : ℕ) → (n == k) ≡ true → n ≡ k
-is_number n k e = (Decides-eqb n k).0 e
-
-pub among_at : (ks : List ℕ) (n k : ℕ) → n ≡ k → among ks k ≡ true → among ks n ≡ true
-among_at ks n k e is = ap (among ks) e ∙ is
-
-pub not_among : (ks : List ℕ) (n k : ℕ) → among ks n ≡ true → n ≡ k → among ks k ≡ false → ⊥
-not_among ks n k is e isnt = let both = sym is ∙ ap (among ks) e ∙ isnt in cc
-
-pub apart : (js ks : List ℕ) (n : ℕ) → disjoint js ks ≡ true → among js n ≡ true → among ks n ≡ true → ⊥
-apart [] ks n d e is = cc
-apart (j ∷ js) ks n d e is = let (here, later) = and_cases (not (among ks j)) (disjoint js ks) d in
-    elim (or_cases (n == j) (among js n) e) [
-      | inl same ↦ bad_not (among ks j) here (ap (among ks) (sym (is_number n j same)) ∙ is)
-      | inr more ↦ apart js ks n later more is
-    ]
-  where
-    bad_not : (b : Bool) → not b ≡ true → b ≡ true → ⊥
-    bad_not true e h = cc
-    bad_not false e h = cc
-
-pub widened : (js ks : List ℕ) (n : ℕ) → within js ks ≡ true → among js n ≡ true → among ks n ≡ true
-widened [] ks n w e = absurd cc
-widened (j ∷ js) ks n w e = let (here, later) = and_cases (among ks j) (within js ks) w in
-    elim (or_cases (n == j) (among js n) e) [
-      | inl same ↦ ap (among ks) (is_number n j same) ∙ here
-      | inr more ↦ widened js ks n later more
-    ]
-
-pub among_append : (js ks : List ℕ) (n : ℕ) → among js n ≡ true → among (js ++ ks) n ≡ true
-among_append [] ks n e = absurd cc
-among_append (j ∷ js) ks n e = elim (or_cases (n == j) (among js n) e) [
-  | inl same ↦ or_left (n == j) (among (js ++ ks) n) same
-  | inr more ↦ or_right (n == j) (among (js ++ ks) n) (among_append js ks n more)
-]
-
-pub among_behind : (js ks : List ℕ) (n : ℕ) → among ks n ≡ true → among (js ++ ks) n ≡ true
-among_behind [] ks n e = e
-among_behind (j ∷ js) ks n e = or_right (n == j) (among (js ++ ks) n) (among_behind js ks n e)
-
 -- ---- what was taken
 
-when_some : {A : Type 0} (b : Bool) (a x : A) → when b a ≡ Some x → b ≡ true
-when_some true a x e = refl
-when_some false a x e = absurd cc
-
 terminal_code : (k : Terminal) (p : Piece) → is_terminal k p ≡ true → among (number_of k ∷ []) (code p) ≡ true
-terminal_code k p e = or_left (number_of p.terminal == number_of k) false e
-
-pub is_terminal_number : (k : Terminal) (p : Piece) → is_terminal k p ≡ true → code p ≡ number_of k
-is_terminal_number k p e = is_number (number_of p.terminal) (number_of k) e
-
-pub number_is_terminal : (k : Terminal) (p : Piece) → code p ≡ number_of k → is_terminal k p ≡ true
-number_is_terminal k p e = ap (λ n. n == number_of k) e ∙ same_number (number_of k)
-
-pub mark_is : (k : Terminal) (p : Piece) (a : Place) → mark k p ≡ Some a → is_terminal k p ≡ true
-unfolding mark
-mark_is k p a e = when_some (is_terminal k p) p.place a e
+terminal_code k p e = among_alone (number_of p.terminal) (number_of k) e
 
 pub mark_of : (k : Terminal) (p : Piece) → is_terminal k p ≡ true → mark k p ≡ Some p.place
 unfolding mark
 mark_of k p e = ap (λ b. when b p.place) e
-
-pub mark_number : (k : Terminal) (p : Piece) (a : Place) → mark k p ≡ Some a → code p ≡ number_of k
-mark_number k p a e = is_terminal_number k p (mark_is k p a e)
 
 pub mark_codes : (k : Terminal) → Codes (number_of k ∷ []) (mark k)
 mark_codes k p a e = terminal_code k p (mark_is k p a e)
 
 pub identifier_codes : Codes (number_of t.Identifier ∷ []) identifier
 unfolding identifier
-identifier_codes p a e = terminal_code t.Identifier p (and_cases (is_terminal t.Identifier p) (is_utf8 p.text) (when_some _ _ a e)).0
+identifier_codes p a e = terminal_code t.Identifier p (and_both (is_terminal t.Identifier p) (is_utf8 p.text) (when_some _ _ a e).0).0
 
 pub type_head_codes : Codes (number_of t.Identifier ∷ number_of t.SelfType ∷ []) type_head
 unfolding type_head
 type_head_codes p a e =
-    elim (or_cases (is_terminal t.Identifier p) (is_terminal t.SelfType p) (and_cases (is_terminal t.Identifier p || is_terminal t.SelfType p) (is_utf8 p.text) (when_some _ _ a e)).0) [
+    elim (or_cases (is_terminal t.Identifier p) (is_terminal t.SelfType p) (and_both (is_terminal t.Identifier p || is_terminal t.SelfType p) (is_utf8 p.text) (when_some _ _ a e).0).0) [
       | inl is ↦ or_left _ _ is
       | inr is ↦ or_right (is_terminal t.Identifier p) _ (or_left (is_terminal t.SelfType p) false is)
     ]
 
-pub negative_codes : Codes (number_of t.Minus ∷ []) negative
-unfolding negative
-negative_codes p a e = terminal_code t.Minus p (and_cases (is_terminal t.Minus p) (has_role role.Negative p) (when_some _ _ a e)).0
+pub attached_codes : Codes (number_of t.Minus ∷ []) attached_minus
+unfolding attached_minus
+attached_codes p a e = terminal_code t.Minus p (and_both (is_terminal t.Minus p) _ (when_some _ _ a e).0).0
 
 pub integer_codes : (most : ℕ) → Codes (number_of t.Integer ∷ []) (integer most)
 unfolding integer
-integer_codes most p a e = terminal_code t.Integer p (and_cases (is_terminal t.Integer p) _ (when_some _ _ a e)).0
+integer_codes most p a e = terminal_code t.Integer p (and_both (is_terminal t.Integer p) _ (when_some _ _ a e).0).0
 
 pub string_codes : Codes (number_of t.String ∷ []) string
 unfolding string
-string_codes p a e = terminal_code t.String p (and_cases (is_terminal t.String p) _ (when_some _ _ a e)).0
+string_codes p a e = terminal_code t.String p (and_both (is_terminal t.String p) _ (when_some _ _ a e).0).0
 
 placed_some : {A : Type 0} (p : Place) (o : Option A) (x : Place × A) → placed p o ≡ Some x → (a : A) × (o ≡ Some a)
 placed_some p None x e = absurd cc

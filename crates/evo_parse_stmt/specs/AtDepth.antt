@@ -62,6 +62,9 @@ module _ (inits : Bool) (d : ℕ) where
   abbrev pub branch : Reader (Option Expr × Block)
   branch = read.branch inits d (expr d) (call d) (inner_of inits d)
 
+  abbrev pub last_branch : Reader (Option Expr × Block)
+  last_branch = read.last_branch inits d (expr d) (call d) (inner_of inits d)
+
   abbrev pub behind_else : Reader (Option Expr × Block)
   behind_else = read.behind_else inits d (expr d) (call d) (inner_of inits d)
 

@@ -19,17 +19,23 @@ use Rattle.evo_tree.specs.declared.statement.Clause.{Clause}
 use Rattle.evo_tree.specs.declared.statement.Stmt.{Stmt}
 use Rattle.evo_tree.specs.declared.statement.Stmt.TheVariants as s
 use Rattle.evo_tree.specs.declared.terminal.Terminal.TheVariants as t
-use Rattle.evo_tree.specs.Pieces.{is_terminal, mark, identifier, word, integer, string, negative}
+use Rattle.evo_tree.specs.Pieces.{is_terminal, mark, identifier, word, integer, string}
 use Rattle.evo_tree.specs.Types.{type_head}
 use Rattle.evo_tree.specs.Statements as grammar
-use Rattle.evo_tree.specs.Statements.{introduces, is_here, is_below, is_later, assigns_to, binding, path_of, case_of_type, is_last_clause, is_last_branch, no_longer_first, less}
+use Rattle.evo_tree.specs.Statements.{introduces, attached_minus, is_here, is_below, is_later, assigns_to, binding, path_of, case_of_type, is_last_clause, is_last_branch, no_longer_first, less}
 use Rattle.evo_parse_expr.specs.Read.{Reader, opens, after, type_of, expr}
 use Rattle.evo_parse_expr.specs.AtDepth.{called_at}
 
 -- ---- patterns
 
+abbrev pub named_binder : Option Identifier → Reader Binding
+named_binder l = one identifier >>= (λ n. pure (binding l (Some n)))
+
+abbrev pub blank_binder : Option Identifier → Reader Binding
+blank_binder l = one (mark t.Underscore) >>= (λ _. pure (binding l None))
+
 unfoldable pub binder : Option Identifier → Reader Binding
-binder l = alt (mark t.Let) (λ _. one identifier >>= (λ n. pure (binding l (Some n)))) (one (mark t.Underscore) >>= (λ _. pure (binding l None)))
+binder l = alt (mark t.Let) (λ _. named_binder l) (blank_binder l)
 
 unfoldable pub sub : Reader Binding
 sub = alt identifier (λ l. one (mark t.Colon) >>= (λ _. binder (Some l))) (binder None)
@@ -76,7 +82,7 @@ typed d head = do
 unfoldable pub pattern : ℕ → Reader Pattern
 pattern d = alt (mark t.Dot) (implicit d)
     (alt type_head (typed d)
-    (alt negative magnitude
+    (alt attached_minus magnitude
     (alt (integer (2 ^ 63 - 1)) (λ v. pure (tree.Integer v.0 v.1))
     (alt string (λ v. pure (tree.String v.0 v.1))
     (alt (mark t.True) (λ p. pure (tree.Boolean p true))
@@ -174,8 +180,12 @@ module _ (inits : Bool) (d : ℕ) (e : Reader Expr) (a : Reader (List (Option Id
     b ← block_of d inner
     pure (Some y, b)
 
+  -- a block behind `else`
+  abbrev pub last_branch : Reader (Option Expr × Block)
+  last_branch = block_of d inner >>= (λ b. pure (None, b))
+
   unfoldable pub behind_else : Reader (Option Expr × Block)
-  behind_else = alt (mark t.If) (λ _. branch) (block_of d inner >>= (λ b. pure (None, b)))
+  behind_else = alt (mark t.If) (λ _. branch) last_branch
 
   abbrev pub else_at : Bool → Reader (Option Expr × Block)
   else_at true = refuse

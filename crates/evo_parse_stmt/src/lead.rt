@@ -6,6 +6,7 @@ ghost use Rattle.evo_combinators.specs.Three.{starts_three};
 ghost use Rattle.evo_combinators.specs.Reader.{lead, Eats, Reads};
 ghost use Rattle.evo_tree.specs.Pieces.{is_terminal};
 ghost use Rattle.evo_tree.specs.declared.terminal.Terminal.TheVariants.{Dot, Init};
+ghost use Rattle.evo_tree.specs.declared.expression.Expr.{out-Expr};
 ghost use Rattle.evo_tree.specs.Statements as spec;
 
 use evo_base::Place;
@@ -49,6 +50,33 @@ pub fn introducer(tokens: &mut Cursor<'_>) -> Option<(Place, Introducer)>
     Some((place, kind))
 }
 
+/// Takes `-` directly before what it belongs to.
+#[tactic(auto, unfolding(evo_combinators::specs::Reader::lead, evo_tree::specs::Statements::attached_minus))]
+pub fn attached_minus(tokens: &mut Cursor<'_>) -> Option<Place>
+    ensures { Eats (lead spec.attached_minus tokens.old) result tokens.old tokens.new }
+{
+    let (first, rest) = tokens.next()?;
+    if !first.is(Terminal::Minus) {
+        return None;
+    }
+    if !(first.has_role(Role::Negative) || first.has_role(Role::Prefix)) {
+        return None;
+    }
+    let place = first.place();
+    *tokens = rest;
+    Some(place)
+}
+
+// Whether it is no negative literal.
+fn is_positive(value: &Expr) -> bool
+    ensures { result ≡ spec.is_positive_level (out-Expr value.now) }
+{
+    match value {
+        Expr::Negative(_, _) => false,
+        _ => true,
+    }
+}
+
 // Whether it may be assigned to.
 #[tactic(auto, unfolding(evo_tree::specs::Statements::is_target))]
 fn is_target(target: &Expr) -> bool
@@ -58,10 +86,7 @@ fn is_target(target: &Expr) -> bool
         Expr::Negative(_, _) => false,
         Expr::Prefix(_, _, _) => false,
         Expr::Chain(_, _) => false,
-        Expr::Members(first, _) => match first.get() {
-            Expr::Negative(_, _) => false,
-            _ => true,
-        },
+        Expr::Members(first, _) => is_positive(first.get()),
         _ => true,
     }
 }

@@ -7,12 +7,44 @@ ghost use Rattle.evo_tree.specs.declared.terminal.Terminal.TheVariants.{Comma};
 ghost use Rattle.evo_parse_expr.specs.Read.{after};
 ghost use Rattle.evo_parse_stmt.specs.Read as spec;
 
-use crate::fault::too_deep;
+use crate::lead::attached_minus;
 use evo_base::{List, Name, Place};
 use evo_combinators::ReadError;
-use evo_parse_expr::Cursor;
+use evo_parse_expr::{Cursor, discard, too_deep};
 use evo_tree::{Binding, Identifier, Pattern, Terminal, TypeName};
 use std::alloc::Global;
+
+// A name behind `let`.
+fn named_binder(
+    alloc: Global,
+    tokens: &mut Cursor<'_>,
+    label: Option<Identifier>,
+) -> Result<Binding, ReadError>
+    ensures { Reads (spec.named_binder label tokens.old) result tokens.new }
+{
+    match tokens.expect_identifier(alloc) {
+        Ok(name) => Ok(Binding {
+            label,
+            name: Some(name),
+        }),
+        Err(error) => {
+            discard(label);
+            Err(error)
+        }
+    }
+}
+
+fn blank_binder(tokens: &mut Cursor<'_>, label: Option<Identifier>) -> Result<Binding, ReadError>
+    ensures { Reads (spec.blank_binder label tokens.old) result tokens.new }
+{
+    match tokens.expect_mark(Terminal::Underscore) {
+        Ok(_) => Ok(Binding { label, name: None }),
+        Err(error) => {
+            discard(label);
+            Err(error)
+        }
+    }
+}
 
 #[tactic(auto, unfolding(crate::specs::Read::binder))]
 fn binder(
@@ -23,14 +55,9 @@ fn binder(
     ensures { Reads (spec.binder label tokens.old) result tokens.new }
 {
     if let Some(_) = tokens.mark(Terminal::Let) {
-        let name = tokens.expect_identifier(alloc)?;
-        return Ok(Binding {
-            label,
-            name: Some(name),
-        });
+        return named_binder(alloc, tokens, label);
     }
-    tokens.expect_mark(Terminal::Underscore)?;
-    Ok(Binding { label, name: None })
+    blank_binder(tokens, label)
 }
 
 #[tactic(auto, unfolding(crate::specs::Read::sub))]
@@ -185,7 +212,7 @@ pub fn pattern(alloc: Global, tokens: &mut Cursor<'_>, depth: u32) -> Result<Pat
     if let Some(head) = tokens.type_head(alloc)? {
         return typed(alloc, tokens, depth, head);
     }
-    if let Some(place) = tokens.negative() {
+    if let Some(place) = attached_minus(tokens) {
         return magnitude(tokens, place);
     }
     if let Some((place, value)) = tokens.integer(0x7fff_ffff_ffff_ffff) {

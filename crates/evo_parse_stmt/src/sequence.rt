@@ -9,18 +9,17 @@ ghost use Rattle.evo_parse_stmt.specs.ReadsInner.{ReadsInner};
 ghost use Rattle.evo_parse_stmt.specs.Read.{inner_of};
 ghost use Rattle.evo_parse_stmt.specs.AtDepth as spec;
 
-use crate::fault::{is_refusal, too_deep};
 use crate::label::label;
 use crate::lead::{expect_below, expect_later};
 use evo_base::Place;
 use evo_combinators::ReadError;
-use evo_parse_expr::Cursor;
+use evo_parse_expr::{Cursor, is_refusal, too_deep};
 use evo_tree::{Block, Clause, ClauseLabel, Stmt, Terminal};
 use sqlite_items::Items;
 use std::alloc::{AllocError, Global};
 
-/// The first one and those behind it.
-pub fn joined<T: Drop>(alloc: Global, first: T, more: Items<T>) -> Result<Items<T>, AllocError>
+// The first one and those behind it.
+fn joined<T: Drop>(alloc: Global, first: T, more: Items<T>) -> Result<Items<T>, AllocError>
     ensures { IfOk result (λ all. all ≡ first ∷ more) }
 {
     let mut all = Items::new(alloc);

@@ -8,12 +8,11 @@ ghost use Rattle.evo_parse_stmt.specs.ReadsInner.{ReadsInner};
 ghost use Rattle.evo_parse_stmt.specs.Read as read;
 ghost use Rattle.evo_parse_stmt.specs.AtDepth as spec;
 
-use crate::fault::is_refusal;
 use crate::lead::{expect_here, expect_later, introducer, operator, starts_init};
-use crate::sequence::{Statements, joined};
+use crate::sequence::Statements;
 use evo_base::Place;
 use evo_combinators::ReadError;
-use evo_parse_expr::{Cursor, call, expr, type_name};
+use evo_parse_expr::{Cursor, call, discard, expr, is_refusal, type_name};
 use evo_tree::{Block, Branch, Expr, Introducer, Stmt, Terminal, TypeName};
 use sqlite_items::Items;
 use std::alloc::Global;
@@ -70,8 +69,22 @@ impl<F: Fn(Global, &mut Cursor<'_>, u32, bool) -> Result<Stmt, ReadError>> State
         ensures { Reads (spec.branch self.now.inits self.now.depth tokens.old) result tokens.new }
     {
         let condition = expr(self.alloc, tokens, self.depth, true)?;
+        match self.block(tokens) {
+            Ok(block) => Ok((Some(condition), block)),
+            Err(error) => {
+                discard(condition);
+                Err(error)
+            }
+        }
+    }
+
+    // A block behind `else`.
+    fn last_branch(&self, tokens: &mut Cursor<'_>) -> Result<Branch, ReadError>
+        requires { ReadsInner self.now.depth (F.pre self.now.statement) (F.post self.now.statement) }
+        ensures { Reads (spec.last_branch self.now.inits self.now.depth tokens.old) result tokens.new }
+    {
         let block = self.block(tokens)?;
-        Ok((Some(condition), block))
+        Ok((None, block))
     }
 
     #[tactic(auto, unfolding(crate::specs::Read::behind_else))]
@@ -82,8 +95,7 @@ impl<F: Fn(Global, &mut Cursor<'_>, u32, bool) -> Result<Stmt, ReadError>> State
         if let Some(_) = tokens.mark(Terminal::If) {
             return self.branch(tokens);
         }
-        let block = self.block(tokens)?;
-        Ok((None, block))
+        self.last_branch(tokens)
     }
 
     fn else_at(&self, tokens: &mut Cursor<'_>, ended: bool) -> Result<Branch, ReadError>
@@ -140,9 +152,10 @@ impl<F: Fn(Global, &mut Cursor<'_>, u32, bool) -> Result<Stmt, ReadError>> State
         requires { ReadsInner self.now.depth (F.pre self.now.statement) (F.post self.now.statement) }
         ensures { Reads (spec.rest_of_if self.now.inits self.now.depth place tokens.old) result tokens.new }
     {
-        let first = self.branch(tokens)?;
-        let more = self.further_branches(tokens, false)?;
-        Ok(Stmt::If(place, joined(self.alloc, first, more)?))
+        let mut found = Items::new(self.alloc);
+        found.push(self.branch(tokens)?)?;
+        found.append(self.further_branches(tokens, false)?)?;
+        Ok(Stmt::If(place, found))
     }
 
     #[tactic(auto, unfolding(crate::specs::Read::rest_of_while))]
@@ -151,8 +164,13 @@ impl<F: Fn(Global, &mut Cursor<'_>, u32, bool) -> Result<Stmt, ReadError>> State
         ensures { Reads (spec.rest_of_while self.now.inits self.now.depth place tokens.old) result tokens.new }
     {
         let condition = expr(self.alloc, tokens, self.depth, true)?;
-        let block = self.block(tokens)?;
-        Ok(Stmt::While(place, condition, block))
+        match self.block(tokens) {
+            Ok(block) => Ok(Stmt::While(place, condition, block)),
+            Err(error) => {
+                discard(condition);
+                Err(error)
+            }
+        }
     }
 
     #[tactic(auto, unfolding(crate::specs::Read::value_here))]
@@ -193,8 +211,13 @@ impl<F: Fn(Global, &mut Cursor<'_>, u32, bool) -> Result<Stmt, ReadError>> State
         ensures { Reads (spec.rest_of_switch self.now.inits self.now.depth place tokens.old) result tokens.new }
     {
         let subject = expr(self.alloc, tokens, self.depth, true)?;
-        let clauses = self.clauses(tokens)?;
-        Ok(Stmt::Switch(place, subject, clauses))
+        match self.clauses(tokens) {
+            Ok(clauses) => Ok(Stmt::Switch(place, subject, clauses)),
+            Err(error) => {
+                discard(subject);
+                Err(error)
+            }
+        }
     }
 
     #[tactic(auto, unfolding(crate::specs::Read::self_init))]
@@ -226,8 +249,13 @@ impl<F: Fn(Global, &mut Cursor<'_>, u32, bool) -> Result<Stmt, ReadError>> State
         let Some(operator) = operator(tokens, &target) else {
             return Ok(Stmt::Expr(target));
         };
-        let value = expr(self.alloc, tokens, self.depth, true)?;
-        Ok(Stmt::Assign(target, operator, value))
+        match expr(self.alloc, tokens, self.depth, true) {
+            Ok(value) => Ok(Stmt::Assign(target, operator, value)),
+            Err(error) => {
+                discard(target);
+                Err(error)
+            }
+        }
     }
 
     #[tactic(auto, unfolding(crate::specs::Read::action))]

@@ -4,8 +4,8 @@ use Rattle.evo_tree.specs.declared.module.Item.{Item}
 use Rattle.evo_parse.proofs.Loops.{imports_import, items_import, imports_items, items_items}
 use Rattle.evo_parse.proofs.part.split.Goals as goal
 
-pub loop-part-preserved-in-Continue-1 : goal.loop-part-preserved-in-Continue-1
-loop-part-preserved-in-Continue-1 c =
+pub loop-part-preserved-in-Continue-branch-2 : goal.loop-part-preserved-in-Continue-branch-2
+loop-part-preserved-in-Continue-branch-2 c =
     let name = c.in-Import.name in
     let pushed : c.push.new.self.items ≡ c.loop-part.imports.items ++ name ∷ [] = search rules in (
       pushed ∙ ap (λ (l : List Identifier). l ++ name ∷ []) c.loop-part.invariant.0 ∙ sym (imports_import c.in-Some.part name c.in-Import.is c.loop-part.yielded),

@@ -7,7 +7,7 @@ use Rattle.evo_tree.specs.Pieces.{Piece}
 use Rattle.evo_parse_expr.specs.Read.{Reader}
 use Rattle.evo_parse_decl.specs.Read.{goes_on, begins_member, next}
 use Rattle.evo_parse_decl.specs.Closed.{member_at}
-use Rattle.evo_parse_decl.proofs.Numbers.{run_begin}
+use Rattle.evo_parse_decl.proofs.Runs.{run_begin}
 use Rattle.evo_parse_decl.proofs.member.further_members.Goals as goal
 
 pub loop-turn-init : goal.loop-turn-init

@@ -1,4 +1,4 @@
--- A loop that begins with something found.
+-- A run behind what was found before it.
 use Rattle.std.proofs.Common.{◌≡◌, ◌-◌, Bool, List, length, arith, ap}
 use Rattle.evo_combinators.specs.Guard.{run, run_from}
 use Rattle.evo_combinators.specs.Reader.{with_front}

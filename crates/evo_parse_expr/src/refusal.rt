@@ -1,10 +1,10 @@
-//! Faults of readers.
+//! Refusals of readers, and what is done at one.
 
 ghost use Rattle.std.specs.Prelude.{◌≡◌, ℕ, IsTrue, ◌↔◌};
 
 use evo_combinators::{Fault, ReadError};
 
-/// The fault that the token before these opens one nesting too many.
+/// The fault that the first of so many tokens opens one nesting too many.
 pub fn too_deep(left: usize) -> ReadError
     ensures { result ≡ ReadError.Fault (Fault.Deep left) }
 {
@@ -20,3 +20,6 @@ pub fn is_refusal(error: ReadError, left: usize) -> bool
         _ => false,
     }
 }
+
+/// Lets go of what was read before a fault.
+pub fn discard<T: Drop>(_read: T) {}
