@@ -1,6 +1,6 @@
 #!/usr/bin/env bash
 # Times `swevo evolve` on libraries of 1,024 and of 4,096 functions, with a client that calls each
-# of them once, and checks every line that comes out. The program is built first where it has to be.
+# of them once, and checks every line that comes out. It wants the proved program: rt ci leaves it.
 # Each time is the least of three runs; a run that takes longer than 120 seconds is an error.
 . "$(dirname -- "$(readlink -f -- "${BASH_SOURCE[0]}")")/common.sh"
 

@@ -1,9 +1,10 @@
 #!/usr/bin/env bash
 # Times how long `swevo` takes to read a client of ordinary code of 256 KiB, 512 KiB and 1 MiB, how much
 # memory it takes at most, and whether it reads long flat sources: 100,000 statements or members beside each
-# other, 50,000 to 200,000 operands in one chain, 100,000 links behind one name, 60,000 branches of one `if`.
-# Each is read whole, as the answer shows: it is in the grammar, and not of the form that is built today.
-# Each time is the least of five runs.
+# other, 50,000 to 200,000 operands in one chain, 100,000 links behind one name, 60,000 branches of one `if`,
+# and 1 MiB of statements or of cases that are as short as can be. Each is read whole, as the answer shows: it
+# is in the grammar, and not of the form that is built today. Each time is the least of five runs. A run that
+# takes more than 300 MB is an error.
 . "$(dirname -- "$(readlink -f -- "${BASH_SOURCE[0]}")")/common.sh"
 
 printf 'public func f() -> Int { return 1 }\n' >lib.swift
@@ -59,16 +60,18 @@ ordinary() {
     least_of 5 run
 }
 
-repeated() {
-    write_repeated "$@"
-    least_of 5 run
-}
-
 # Prints the most memory of one run, in KiB.
 memory() {
     time_of /usr/bin/time -f %M -o peak -- "$swevo" evolve Lib lib.swift lib.swift main.swift 1 >spent
     is_read
+    [[ "$(tail -n 1 peak)" -le 292968 ]]
     tail -n 1 peak
+}
+
+repeated() {
+    write_repeated "$@"
+    memory >>peaks
+    least_of 5 run
 }
 
 small="$(ordinary 262144)"
@@ -90,11 +93,15 @@ operands="$(repeated 100000 'let x = 0' ' + 1' '')"
 more="$(repeated 200000 'let x = 0' ' + 1' '')"
 links="$(repeated 100000 'x' '.a' '')"
 branches="$(repeated 60000 'if a {}' ' else if b {}' '')"
-awk -v statements="$statements" -v members="$members" -v links="$links" -v branches="$branches" 'BEGIN {
+shortest="$(repeated 524282 '' $'a\n' '')"
+cases="$(repeated 149790 $'enum E {\n' $'case a\n' '}')"
+awk -v statements="$statements" -v members="$members" -v links="$links" -v branches="$branches" -v shortest="$shortest" -v cases="$cases" 'BEGIN {
     printf "100,000 statements: %.3f s\n100,000 members: %.3f s\n", statements / 1000000, members / 1000000
     printf "100,000 links: %.3f s\n60,000 branches: %.3f s\n", links / 1000000, branches / 1000000
+    printf "524,282 statements: %.3f s\n149,790 cases: %.3f s\n", shortest / 1000000, cases / 1000000
 }'
 awk -v fewer="$fewer" -v operands="$operands" -v more="$more" 'BEGIN {
     printf "50,000 operands: %.3f s\n100,000: %.3f s\n200,000: %.3f s\n", fewer / 1000000, operands / 1000000, more / 1000000
     printf "growth for twice the operands: %.2f and %.2f times\n", operands / fewer, more / operands
 }'
+printf 'memory of the long flat sources: %d KiB at most\n' "$(sort -n peaks | tail -n 1)"

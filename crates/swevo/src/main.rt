@@ -1,29 +1,47 @@
 //! Whether a new release of a library still serves a client that was built against the old one.
+//!
+//! The program hands its words, the files of the system and the standard streams to the top call, and ends with the number
+//! of its status. `swevo` of `evo_driver`, below, says what that is; what is here is only tested. Nothing stands above.
 #![tactic(auto)]
 
 use evo_base::{DiskFiles, Files, Name, Sink, StdSink};
 use evo_driver::{Status, swevo};
 use evo_machine::Machine;
 use std::alloc::{AllocError, Global};
-use std::io::ErrorKind;
+use std::env::FillError;
 use std::process::ExitCode;
-use std::{env, rt};
+use std::rt;
 
-#[cfg(test)]
-mod tests;
+// The bytes of a word of the command line, by its number, where there is one.
+fn word_at<R: rt::Runtime<A = Global>>(
+    system: &R,
+    number: usize,
+) -> Result<Option<Vec<u8>>, AllocError> {
+    for doubling in 0..32u32 {
+        let mut bytes = vec![in system.alloc(); 0u8; 256usize << doubling]?;
+        match system.arg(number, &mut bytes) {
+            Ok(len) => {
+                bytes.truncate(len);
+                return Ok(Some(bytes));
+            }
+            Err(FillError::NotPresent) => return Ok(None),
+            Err(FillError::TooLong) => {}
+        }
+    }
+    Err(AllocError)
+}
 
-// The words behind the program's name. Where the system does not hand them over as texts, there are none.
+// The words behind the program's name, which need be no text itself. Where one of the words is no text, there are none.
 fn words_of<R: rt::Runtime<A = Global>>(system: &R) -> Result<Vec<Name>, AllocError> {
-    let alloc = system.alloc();
-    let mut words = Vec::new(alloc);
-    let args = match env::args(system) {
-        Ok(args) => args,
-        Err(e) if e.kind() == ErrorKind::OutOfMemory => return Err(AllocError),
-        Err(_) => return Ok(words),
-    };
-    for word in args.skip(1) {
-        let text = word.as_str();
-        words.push(Name::from_vec(Vec::from_slice(alloc, text.as_bytes())?))?;
+    let mut words = Vec::new(system.alloc());
+    for number in 1..usize::MAX {
+        let Some(bytes) = word_at(system, number)? else {
+            break;
+        };
+        if str::from_utf8(&bytes).is_err() {
+            return Ok(Vec::new(system.alloc()));
+        }
+        words.push(Name::from_vec(bytes))?;
     }
     Ok(words)
 }
