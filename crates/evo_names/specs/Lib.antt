@@ -1,0 +1,10 @@
+pub mod Listed
+pub mod Meets
+pub mod Seen
+pub mod Heads
+pub mod Keys
+pub mod Written
+pub mod Faults
+pub mod Search
+pub mod Bodies
+pub mod Laws
