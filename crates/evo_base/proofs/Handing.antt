@@ -28,8 +28,3 @@ Appends-keeps None mid new piece p q = tt
 Appends-keeps (Some o) None new piece p q = absurd p
 Appends-keeps (Some o) (Some m) None piece p q = absurd q
 Appends-keeps (Some o) (Some m) (Some w) piece p q = q ∙ p
-
--- before the first write
-pub Appends-nothing : (old : Option (List ℕ)) → Appends old old []
-Appends-nothing None = tt
-Appends-nothing (Some o) = sym (append-nil o)

@@ -46,14 +46,6 @@ position_of-within n xs i e = slice_get_within xs i n (slice_get-position_of n x
 pub position_of-None : (n : List ℕ) (xs : List (List ℕ)) → position_of n xs ≡ None → (i : ℕ) → slice_get xs i ≡ Some n → ⊥
 position_of-None n xs e = subst (At n xs) e (at_position n xs)
 
--- a name that stands at some place has a position
-pub IsSome-position_of : (n : List ℕ) (xs : List (List ℕ)) (i : ℕ) → slice_get xs i ≡ Some n → IsSome (position_of n xs)
-IsSome-position_of n xs i e = by (position_of n xs) refl
-  where
-    by : (o : Option ℕ) → position_of n xs ≡ o → IsSome o
-    by None is = absurd (position_of-None n xs is i e)
-    by (Some k) is = search rules
-
 -- where no name comes twice, each one's position is its place
 pub position_of-distinct : (n : List ℕ) (xs : List (List ℕ)) (i : ℕ) → AreDistinct xs → slice_get xs i ≡ Some n → position_of n xs ≡ Some i
 position_of-distinct n xs i distinct e = by (position_of n xs) refl

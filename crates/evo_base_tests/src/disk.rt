@@ -7,7 +7,8 @@ use std::{fs, rt};
 
 const FILE: &str = "evo_base_tests_file";
 
-fn name(alloc: Global, text: &str) -> Result<Name, AllocError> {
+/// A name of this text.
+pub fn name(alloc: Global, text: &str) -> Result<Name, AllocError> {
     Ok(Name::from_vec(Vec::from_slice(alloc, text.as_bytes())?))
 }
 
@@ -37,17 +38,16 @@ fn fronts<F: Files>(
         .is_ok()
         && files.put(at, b"0123456789").is_ok();
     report.tell("a file is put twice", is_put)?;
-    for (limit, expected) in [
-        (0, "0"),
-        (3, "0123"),
-        (9, "0123456789"),
-        (10, "0123456789"),
-        (1_048_576, "0123456789"),
-    ] {
+    let mut limit = 0u32;
+    for expected in "0 01 012 0123 01234 012345 0123456 01234567 012345678 0123456789 0123456789".split(
+        ' ',
+    ) {
         let agrees = is_front(alloc, files, at, limit, expected.as_bytes());
         report.tell("a front of a short file", agrees)?;
+        limit = limit.saturating_add(1);
     }
-    Ok(())
+    let whole = is_front(alloc, files, at, 1_048_576, b"0123456789");
+    report.tell("a short file", whole)
 }
 
 /// A file of ten bytes, and what is told once it is gone.
@@ -75,6 +75,22 @@ fn long_text(alloc: Global) -> Result<Vec<u8>, AllocError> {
     Ok(text)
 }
 
+// Puts a long text, and reads it back.
+fn whole_and_front<F: Files>(
+    alloc: Global,
+    files: &mut F,
+    at: &Name,
+    text: &[u8],
+    report: &mut Report,
+) -> Result<(), AllocError> {
+    report.tell("a long file is put", files.put(at, text).is_ok())?;
+    let whole = is_front(alloc, files, at, 1_048_576, text);
+    report.tell("a long file", whole)?;
+    let front = text.get(..150_001).unwrap_or(b"");
+    let limited = is_front(alloc, files, at, 150_000, front);
+    report.tell("the front of a long file", limited)
+}
+
 /// A file that is longer than any buffer is written whole, and read back whole or to a limit.
 pub fn try_long<R: rt::Runtime<A = Global>>(
     system: &R,
@@ -84,12 +100,7 @@ pub fn try_long<R: rt::Runtime<A = Global>>(
     let at = name(alloc, FILE)?;
     let text = long_text(alloc)?;
     let mut files = DiskFiles::new(system);
-    report.tell("a long file is put", files.put(&at, &text).is_ok())?;
-    let whole = is_front(alloc, &mut files, &at, 1_048_576, &text);
-    report.tell("a long file", whole)?;
-    let front = text.get(..150_001).unwrap_or(b"");
-    let limited = is_front(alloc, &mut files, &at, 150_000, front);
-    report.tell("the front of a long file", limited)?;
+    whole_and_front(alloc, &mut files, &at, &text, report)?;
     report.tell(
         "a long file is removed",
         fs::remove_file(system, FILE).is_ok(),

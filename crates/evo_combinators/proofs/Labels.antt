@@ -126,6 +126,3 @@ module _ {T N C A B : Type 0} (Stop : Option T → Type 0) (E E' : List T → A 
       (λ t us is bad. opens_by AfterLabel (Labelled E) (Labelled E') labelled right_labelled t (goes_labelled t is) us bad)
       (λ t us is bad. opens_by AfterLabel (Bare E) (Bare E') (e >>= (λ x. pure (bare x))) right_bare t (goes_bare t is) us bad)
       (λ t rest is is' bad. absurd (never_there t rest is is' bad))
-
-  pub some_label : SomeOf (Label E)
-  some_label = let (us, x, s) = some_e in (us, bare x, inr (x, us, [], sym (append-nil us), s, (refl, refl)))

@@ -9,12 +9,6 @@ cut xs i x lt is =
     let first : drop i xs ≡ get_or xs i x ∷ drop (i + 1) xs = rw add-one (drop-cons xs i x lt) in
     first ∙ ap (λ y. y ∷ drop (i + 1) xs) (sym is)
 
-pub filter-keeps : (p : List ℕ → Bool) (x : List ℕ) (xs : List (List ℕ)) → p x ≡ true → filter p (x ∷ xs) ≡ [] → ⊥
-filter-keeps p x xs is e = absurd (let k : x ∷ filter p xs ≡ [] = rw is at e in cc)
-
-pub filter-drops : (p : List ℕ → Bool) (x : List ℕ) (xs : List (List ℕ)) → p x ≡ false → filter p (x ∷ xs) ≡ filter p xs
-filter-drops p x xs is = rw is refl
-
 -- a text that has the byte at no place
 pub lacks : (byte : ℕ) (xs : List ℕ) → ((i : ℕ) → i < length xs → get_or xs i 0 ≢ byte) → Lacks byte xs
 lacks byte [] none = tt

@@ -17,10 +17,6 @@ abbrev pub with_all : List ℕ → Option (List ℕ) → Option (List ℕ)
 with_all ns None = None
 with_all ns (Some ms) = Some (ns ++ ms)
 
-pub with_all-none : (r : Option (List ℕ)) → r ≡ with_all [] r
-with_all-none None = refl
-with_all-none (Some ms) = refl
-
 pub with_all-one : (ns : List ℕ) (n : ℕ) (r : Option (List ℕ)) → with_all ns (with_first n r) ≡ with_all (ns ++ n ∷ []) r
 with_all-one ns n None = refl
 with_all-one ns n (Some ms) = ap (λ (s : List ℕ). let k : Option (List ℕ) = Some s in k) (sym (append_assoc ns (n ∷ []) ms))

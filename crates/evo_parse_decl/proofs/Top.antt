@@ -208,10 +208,6 @@ module _ (B : ℕ → Bool → Rule Block) (b : ℕ → Bool → Reader Block) (
   pub declarations_grammar : (interface : Bool) → GrammarOf (In (EndsOf interface)) (λ d. grammar.IsDeclaration B interface d) (λ d. read.top_declaration b interface d)
   declarations_grammar interface = record { right = (parses_top_declaration interface).chooses.right; deeper = (parses_top_declaration interface).chooses.deeper }
 
-  -- with each token that opens a nesting a declaration goes on, and no other token opens one too many
-  pub nest_top : (interface : Bool) (d n : ℕ) → ReadsInner d n (grammar.IsDeclaration B interface d) (read.top_declaration b interface d)
-  nest_top interface = (parses_top_declaration interface).chooses.nest
-
   -- and so it is with a declaration in braces
   pub nest_in_braces : (interface : Bool) (s : Scope) (d n : ℕ) → ReadsInner d n (Member interface s d) (member interface s d)
   nest_in_braces interface s = (enters_member interface s).fits.chooses.nest

@@ -32,9 +32,6 @@ pub record Walked {A : Type 0} (own : A → Key) (text : List ℕ) (spots : List
   pub none : (j : ℕ) (s : A) → rest ≤ j → j < bound → slice_get spots j ≡ Some s → sought s → ⊥
 
 module _ (A : Type 0) (own : A → Key) (text : List ℕ) (spots : List A) (bound : ℕ) (sought : A → Type 0) (has : (s : A) → sought s → bucket (own s) ≡ text) where
-  pub walk_begins : (at : Option ℕ) → IsLatest own text spots bound at → Walked own text spots bound sought at
-  walk_begins at h = record { rest = bound; within = omega arith; latest = h; none = λ j s le less e is. absurd (omega arith) }
-
   -- a declaration that is none of those is passed
   pub walk_goes : (i : ℕ) (s : A) (o : Option ℕ) → Walked own text spots bound sought (Some i) → slice_get spots i ≡ Some s → (sought s → ⊥) → IsLatest own text spots i o → Walked own text spots bound sought o
   walk_goes i s o w at not before = record { rest = i; within = (let a = w.latest.0 in let b = w.within in omega arith); latest = before; none = λ j z le less e is. by j z le less e is (eqb_tells j i) }
@@ -65,13 +62,6 @@ module _ (A : Type 0) (own : A → Key) (text : List ℕ) (spots : List A) (boun
       let found : slice_get spots i ≡ Some s = get_of spots i s s (omega arith) e in
       let latest : IsLatest own text spots i o = subst (λ (t : List ℕ). IsLatest own t spots i o) (here.latest.1 s found) (indexed.previous i s o found before) in
       (walk_goes i s o here found not latest, subst (λ (a : Option ℕ). position o < position a) (sym is) (walk_nearer i o latest))
-
-  -- the next declaration is there
-  pub walk_within : (i : ℕ) → Walked own text spots bound sought (Some i) → bound ≤ length spots → i < length spots
-  walk_within i w le = let a = w.latest.0 in let b = w.within in omega arith
-
-  pub walk_below : (i : ℕ) → Walked own text spots bound sought (Some i) → i < bound
-  walk_below i w = let a = w.latest.0 in let b = w.within in omega arith
 
   -- nothing is left
   pub walk_ends : Walked own text spots bound sought None → (j : ℕ) (s : A) → j < bound → slice_get spots j ≡ Some s → sought s → ⊥
