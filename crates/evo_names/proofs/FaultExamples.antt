@@ -12,15 +12,17 @@ use Rattle.evo_tree.specs.declared.declaration.Parameter.{Parameter}
 use Rattle.evo_tree.specs.declared.declaration.NominalKind.TheVariants as nominal
 use Rattle.evo_tree.specs.declared.declaration.DeclKind.TheOpen as de
 use Rattle.evo_names.specs.declared.declared_name.DeclaredName.{DeclaredName}
-use Rattle.evo_names.specs.Listed.{Text, Within, top, braces, extension, Kind, Entry, World, declarations}
+use Rattle.evo_tree.specs.declared.declaration.Payload.{Payload}
+use Rattle.evo_tree.specs.declared.module.Form.TheVariants as form
+use Rattle.evo_names.specs.Listed.{Text, Within, top, braces, extension, Kind, Entry, Listing, World, declarations}
 use Rattle.evo_names.specs.Meets.{meets}
 use Rattle.evo_names.specs.Seen.{is_seen}
-use Rattle.evo_names.specs.Heads.{named, qualified, declaration_of, shown}
+use Rattle.evo_names.specs.Heads.{named, qualified, declaration_of, conformances, shown}
 use Rattle.evo_names.specs.Keys.{declared_name, declared_names}
 use Rattle.evo_names.specs.Written.{beginning}
-use Rattle.evo_names.specs.Faults.{IsFault, meet, taken, conformance, protocol, written, extended, generic_parameters, seen_names, scope_of}
+use Rattle.evo_names.specs.Faults.{IsFault, meet, taken, alias, generics, conformance, foreign, «import», protocol, written, extended, parameters, generic_parameters, payload, seen_names, scope_of}
 use Rattle.evo_names.proofs.Circles.{no_beginning}
-use Rattle.evo_names.proofs.Samples.{place, header, type, nominal_type, function, stored, declared, interface, client, key, main}
+use Rattle.evo_names.proofs.Samples.{place, header, type, nominal_type, function, stored, declared, interface, client, key, lib, main}
 
 abbrev at : Place → Text → Identifier
 at p n = record { place = p; text = n }
@@ -160,3 +162,64 @@ fifth_parameter_text = text (here top (de.Function (at (place 2 6) (codes "f")) 
 fifth_parameter : IsFault fifth_parameter_text kind.TooMany (place 2 20)
 unfolding fifth_parameter_text
 fifth_parameter = generic_parameters 0 _ _ refl refl
+
+-- struct X { typealias main = Int }: a `typealias` with the name of the module
+alias_of_module_text : World
+alias_of_module_text = text (here top (nominal_type nominal.Struct (codes "X") []) ∷ here (braces nominal.Struct (codes "X")) (de.TypeAlias (at (place 2 22) (codes "main")) (type (codes "Int"))) ∷ [])
+
+alias_of_module : IsFault alias_of_module_text kind.Twice (place 2 22)
+unfolding alias_of_module_text
+alias_of_module = alias 1 _ refl refl refl refl
+
+-- func f<T, T>() { }
+generic_again_text : World
+generic_again_text = text (here top (de.Function (at (place 2 6) (codes "f")) (record { generics = record { name = at (place 2 8) (codes "T"); protocols = [] } ∷ record { name = at (place 2 11) (codes "T"); protocols = [] } ∷ []; parameters = []; result = None; requirements = [] }) None) ∷ [])
+
+generic_again : IsFault generic_again_text kind.Twice (place 2 11)
+unfolding generic_again_text
+generic_again = generics 0 0 1 _ _ _ refl refl refl (lit< tt) refl
+
+-- the library has `public struct S: P { }`, and the client `extension S: P { }`
+conforming : Listing
+conforming = interface (declared top (modifier.Public ∷ []) (nominal_type nominal.Protocol (codes "P") []) ∷ declared top (modifier.Public ∷ []) (nominal_type nominal.Struct (codes "S") (type (codes "P") ∷ [])) ∷ [])
+
+conforms_again_text : World
+conforms_again_text = client (declared top [] (de.Extension (type_at (place 2 11) (codes "S")) (type_at (place 2 14) (codes "P") ∷ []) []) ∷ []) conforming
+
+conforms_again : IsFault conforms_again_text kind.Twice (place 2 14)
+unfolding conforms_again_text conforming declaration_of declarations conformances named is_seen
+conforms_again = foreign {k = key lib (lib ∷ []) (codes "S") None []} {p = key lib (lib ∷ []) (codes "P") None []} {d = 0} {i = 0} conforming refl refl refl (record { declaration = _; at = refl; of_type = refl; name = refl; protocol = refl })
+
+-- import Foo
+unknown_import_text : World
+unknown_import_text = record { own = record { form = form.Client; name = main; imports = at (place 1 8) (codes "Foo") ∷ []; entries = [] }; imported = Some (interface of_library) }
+
+unknown_import : IsFault unknown_import_text kind.Unknown (place 1 8)
+unfolding unknown_import_text
+unknown_import = «import» _ 0 refl refl
+
+-- sixteen of one kind, and another one
+abbrev sixteen_and : {A : Type 0} → A → A → List A
+sixteen_and x y = x ∷ x ∷ x ∷ x ∷ x ∷ x ∷ x ∷ x ∷ x ∷ x ∷ x ∷ x ∷ x ∷ x ∷ x ∷ x ∷ y ∷ []
+
+abbrev blank : Place → Parameter
+blank p = record { place = p; label = label.Blank; name = at p (codes "x"); type_name = type (codes "Int") }
+
+-- func f(_ x: Int, ..) { }: the seventeenth parameter
+many_parameters_text : World
+many_parameters_text = text (here top (function_at (place 2 6) (codes "f") (sixteen_and (blank (place 2 8)) (blank (place 3 1)))) ∷ [])
+
+many_parameters : IsFault many_parameters_text kind.TooMany (place 3 1)
+unfolding many_parameters_text
+many_parameters = parameters 0 _ _ _ refl refl refl
+
+abbrev unlabelled : Place → Payload
+unlabelled p = record { label = None; type_name = type_at p (codes "Int") }
+
+-- enum X { case a(Int, ..) }: the seventeenth value
+large_payload_text : World
+large_payload_text = text (here top (nominal_type nominal.Enum (codes "X") []) ∷ declared (braces nominal.Enum (codes "X")) [] (de.Case (at (place 2 15) (codes "a")) (sixteen_and (unlabelled (place 2 17)) (unlabelled (place 3 1)))) ∷ [])
+
+large_payload : IsFault large_payload_text kind.TooMany (place 3 1)
+unfolding large_payload_text
+large_payload = payload 1 _ _ refl refl refl

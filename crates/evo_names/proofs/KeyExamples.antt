@@ -7,7 +7,7 @@ use Rattle.evo_tree.specs.declared.declaration.NominalKind.TheVariants as nomina
 use Rattle.evo_names.specs.Listed.{Within, top, braces, Entry, World, alone, declarations}
 use Rattle.evo_names.specs.Seen.{is_seen}
 use Rattle.evo_names.specs.Heads.{named, declaration_of, superclass, lineage, members, shown}
-use Rattle.evo_names.specs.Keys.{declared_name, root_from, root_of, key_of, body_key, conformance_key}
+use Rattle.evo_names.specs.Keys.{declared_name, root_from, root_of, key_of, body_key, conformance_key, inherited_key, constraint_key, copy_key, getter_key}
 use Rattle.evo_names.proofs.Samples.{type, declared, parameter, function, initialiser, stored, nominal_type, extending, in_extension_of, library, interface, client, key, lib, main}
 
 -- open class A { public init() {}; open func f() { .. } }
@@ -131,3 +131,15 @@ extension_key = refl
 -- Lib.R:Lib.P
 conformance : conformance_key lib (key lib (lib ∷ []) (codes "R") None []) (key lib (lib ∷ []) (codes "P") None []) ≡ key lib (lib ∷ []) (codes "R") None (mark.Conformance (record { «module» = lib; name = codes "P" }) ∷ [])
 conformance = refl
+
+-- Lib.P:Lib.Q#conformance
+inherited_table : inherited_key (key lib (lib ∷ []) (codes "P") None []) (key lib (lib ∷ []) (codes "Q") None []) ≡ key lib (lib ∷ []) (codes "P") None (mark.Inherited (record { «module» = lib; name = codes "Q" }) ∷ [])
+inherited_table = refl
+
+-- Lib.P.A:Lib.Q#associated
+constraint_table : constraint_key (key lib (lib ∷ codes "P" ∷ []) (codes "A") None []) (key lib (lib ∷ []) (codes "Q") None []) ≡ key lib (lib ∷ codes "P" ∷ []) (codes "A") None (mark.Associated (record { «module» = lib; name = codes "Q" }) ∷ [])
+constraint_table = refl
+
+-- Lib.S.x#get#copy
+copied_getter : copy_key (getter_key (key lib (lib ∷ codes "S" ∷ []) (codes "x") None [])) ≡ key lib (lib ∷ codes "S" ∷ []) (codes "x") None (mark.Get ∷ mark.Copy ∷ [])
+copied_getter = refl

@@ -9,3 +9,5 @@ mod TypeExamples
 mod SearchExamples
 mod FaultExamples
 mod BodyExamples
+mod TypingExamples
+pub mod OneDeclared

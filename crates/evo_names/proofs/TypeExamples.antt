@@ -143,3 +143,11 @@ hidden = refl
 hidden_in_module : beginning (seen_by_client.home) seen_by_client (codes "Lib" ∷ codes "H" ∷ []) ≡ None
 unfolding beginning named qualified is_seen seen_by_client
 hidden_in_module = refl
+
+-- protocol P: Q, protocol Q: P: each is gone through once
+round_protocols : World
+round_protocols = alone (library (declared top (modifier.Public ∷ []) (nominal_type nominal.Protocol (codes "P") (type (codes "Q") ∷ [])) ∷ declared top (modifier.Public ∷ []) (nominal_type nominal.Protocol (codes "Q") (type (codes "P") ∷ [])) ∷ []))
+
+each_once : closure round_protocols (p_key ∷ []) ≡ p_key ∷ key lib (lib ∷ []) (codes "Q") None [] ∷ []
+unfolding closure declaration_of declarations named is_seen round_protocols p_key
+each_once = refl

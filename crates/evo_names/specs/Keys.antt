@@ -4,6 +4,7 @@ use Rattle.std.specs.Option.{option_map, option_or, option_and_then, option_map_
 use Rattle.evo_base.specs.declared.place.Place.{Place}
 use Rattle.evo_base.specs.declared.key.Key.{Key}
 use Rattle.evo_base.specs.declared.key.Mark.{Mark}
+use Rattle.evo_base.specs.declared.key.ProtocolName.{ProtocolName}
 use Rattle.evo_base.specs.declared.key.Mark.TheVariants as mark
 use Rattle.evo_tree.specs.declared.declaration.NominalKind.TheVariants as nominal
 use Rattle.evo_tree.specs.declared.declaration.DeclKind.TheOpen as de
@@ -109,9 +110,12 @@ key_of d = elim d.entry.kind [
   | de.Extension t ts ds ↦ option_map (λ (h : Head). h.key) (owner_of d.world (extension t))
 ]
 
+abbrev pub protocol_name : Key → ProtocolName
+protocol_name p = record { «module» = p.module; name = p.base }
+
 -- a declared conformance of a type to a protocol, in this module
 abbrev pub conformance_key : Text → Key → Key → Key
-conformance_key module_name k p = record k { «module» = module_name; part = record { marks = mark.Conformance (record { «module» = p.module; name = p.base }) ∷ [] } }
+conformance_key module_name k p = record k { «module» = module_name; part = record { marks = mark.Conformance (protocol_name p) ∷ [] } }
 
 -- what stands for the parts of a declaration
 abbrev pub getter_key : Key → Key
@@ -119,6 +123,22 @@ getter_key k = behind k mark.Get
 
 abbrev pub setter_key : Key → Key
 setter_key k = behind k mark.Set
+
+-- a client's copy of an inlinable body
+abbrev pub copy_key : Key → Key
+copy_key k = behind k mark.Copy
+
+-- a function that stands between a requirement and what meets it, by the conformance and the requirement's symbol
+abbrev pub thunk_key : Key → Text → Key
+thunk_key conformance symbol = behind conformance (mark.Thunk symbol)
+
+-- the table of an inherited protocol within that of a protocol
+abbrev pub inherited_key : Key → Key → Key
+inherited_key p q = record p { part = record { marks = mark.Inherited (protocol_name q) ∷ [] } }
+
+-- the table of a constraint of an associated type, by the associated type's own key
+abbrev pub constraint_key : Key → Key → Key
+constraint_key a q = record a { part = record { marks = mark.Associated (protocol_name q) ∷ [] } }
 
 -- the statements at the top level of a client
 abbrev pub start_key : Key

@@ -2,11 +2,13 @@
 use Rattle.std.specs.Prelude.{◌≡◌, ℕ, ◌<◌, ◌≤◌, false, List, Some, slice_get}
 use Rattle.evo_base.specs.declared.key.Key.{Key}
 use Rattle.evo_resolved.specs.declared.resolved_type.RType.{RType}
+use Rattle.evo_resolved.specs.declared.declaration.RDecl.{RDecl}
 use Rattle.evo_names.specs.declared.declared_name.DeclaredName.{DeclaredName}
 use Rattle.evo_names.specs.Listed.{Text, World, Declaration}
 use Rattle.evo_names.specs.Meets.{NoneTwice, IsFormed, meets, key_by_name}
 use Rattle.evo_names.specs.Keys.{declared_name}
 use Rattle.evo_names.specs.Written.{Scope, Means}
+use Rattle.evo_names.specs.Resolved.{IsDeclared}
 
 -- where none from a number on meets an earlier one, its key is that of no earlier one
 abbrev pub OneKey : Type 0
@@ -19,3 +21,7 @@ DifferentKeys = (d e : Declaration) (s t : DeclaredName) → declared_name d ≡
 -- a written type means at most one type
 abbrev pub OneMeaning : Type 0
 OneMeaning = (w : World) (s : Scope) (names : List Text) (met others : List Key) (t u : RType) → Means w s names met t → Means w s names others u → (met ≡ others) × (t ≡ u)
+
+-- a declaration of the text has at most one form once its names are resolved
+abbrev pub OneDeclared : Type 0
+OneDeclared = (d : Declaration) (r q : RDecl) → IsDeclared d r → IsDeclared d q → r ≡ q

@@ -8,3 +8,6 @@ pub mod Faults
 pub mod Search
 pub mod Bodies
 pub mod Laws
+pub mod Typing
+pub mod Resolved
+pub mod Dispatch

@@ -9,4 +9,4 @@ mod declared_name;
 mod laws;
 
 pub use declared_name::{DeclaredName, Sort};
-pub use laws::{different_keys, one_key, one_meaning};
+pub use laws::{different_keys, one_declared, one_key, one_meaning};

@@ -27,7 +27,7 @@ pub trait Keyed {
         ensures { result ≡ is_named self.now };
 }
 
-/// For each base of a key the last item that has it, and for each item the one before it that has its base.
+/// For each text by which keys are sought the last item that has it, and for each item the one before it that has its text.
 #[derive(Drop)]
 pub struct KeyIndex {
     pub(crate) names: NameTable,
@@ -56,7 +56,7 @@ fn add(alloc: Global, ix: &mut KeyIndex, text: &[u8], number: usize) -> Result<(
     }
 }
 
-// The last item with this base.
+// The last item with this text.
 fn last_of(ix: &KeyIndex, text: &[u8]) -> Option<usize>
     requires { length ix.now.newest.items ≡ length ix.now.names }
     ensures { result ≡ newest_of ix.now text.now }
@@ -65,7 +65,7 @@ fn last_of(ix: &KeyIndex, text: &[u8]) -> Option<usize>
     Some(ix.newest[at])
 }
 
-// The item before this one that has its base.
+// The item before this one that has its text.
 fn before(ix: &KeyIndex, number: usize) -> Option<usize>
     requires { number < length ix.now.previous.items }
     ensures { slice_get ix.now.previous.items number ≡ Some result }
@@ -73,11 +73,25 @@ fn before(ix: &KeyIndex, number: usize) -> Option<usize>
     ix.previous[number]
 }
 
+// The text by which a key is sought: of functions and properties their base, of initialisers the name of their type.
+fn bucket_of(key: &Key) -> &[u8]
+    ensures { result.now ≡ bucket key.now }
+{
+    let base = key.base.as_slice();
+    if base != b"init".as_slice() {
+        return base;
+    }
+    match key.context.as_slice().get(1) {
+        Some(name) => name.as_slice(),
+        None => base,
+    }
+}
+
 // The text by which an item is found.
 fn text_of<T: Keyed>(item: &T) -> &[u8]
     ensures { result.now ≡ bucket (T.own item.now) }
 {
-    item.key().base.as_slice()
+    bucket_of(item.key())
 }
 
 /// The index of these items.
@@ -108,7 +122,7 @@ pub fn find_in<'a, T: Keyed>(items: &'a [T], ix: &KeyIndex, key: &Key) -> Option
     requires { Indexed T.own items.now (length items.now) ix.now }
     ensures { MatchOption result ((x : T) → IsFound T.own T.is_named items.now key.now x → ⊥) (λ x. IsFound T.own T.is_named items.now key.now x.now) }
 {
-    let mut at = last_of(ix, key.base.as_slice());
+    let mut at = last_of(ix, bucket_of(key));
     'walk: while let Some(i) = at {
         let item = &items[i];
         if is_sought(item, key) {
