@@ -1,0 +1,4 @@
+pub mod DifferentSymbols
+mod SymbolExamples
+mod LoadExamples
+mod LayoutExamples

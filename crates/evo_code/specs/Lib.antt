@@ -1,0 +1,4 @@
+pub mod Layouts
+pub mod Symbols
+pub mod Loads
+pub mod Laws
