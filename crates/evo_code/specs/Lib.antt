@@ -1,3 +1,4 @@
+pub mod Named
 pub mod Layouts
 pub mod Symbols
 pub mod Loads

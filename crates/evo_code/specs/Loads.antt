@@ -2,6 +2,7 @@
 use Rattle.std.specs.Prelude.{ℕ, ◌+◌, List, [], ◌∷◌, map, length, Bool, true, false, not, ◌&&◌, ◌||◌, Option, Some, None, slice_get, nat_le, nat_lt, if◌then◌else◌}
 use Rattle.std.specs.List.{list_all, list_any}
 use Rattle.std.specs.Str.{bytes_eq}
+use Rattle.evo_code.specs.Named.{named}
 use Rattle.evo_code.specs.declared.instr.Instr.{Instr}
 use Rattle.evo_code.specs.declared.instr.Instr.TheVariants as Op
 use Rattle.evo_code.specs.declared.instr.Arg.{Arg}
@@ -46,9 +47,6 @@ abbrev pub is_low : Level → Bool
 is_low l = is_timed l || nat_le (rank l) 2
 
 -- ---- names
-
-abbrev pub named : List (List ℕ) → List ℕ → Bool
-named ss s = list_any (λ t. bytes_eq t s) ss
 
 abbrev pub same_kind : ImportKind → ImportKind → Bool
 same_kind kind.Function kind.Function = true

@@ -2,7 +2,8 @@
 
 ghost use Rattle.std.specs.Prelude.{◌≡◌, map};
 ghost use Rattle.std.specs.List.{list_all, list_any};
-ghost use Rattle.evo_code.specs.Loads.{same_kind, is_import, defined, has, has_optional, is_sized, is_place, is_argument, are_arguments, named};
+ghost use Rattle.evo_code.specs.Named.{named};
+ghost use Rattle.evo_code.specs.Loads.{same_kind, is_import, defined, has, has_optional, is_sized, is_place, is_argument, are_arguments};
 
 use crate::instr::Arg;
 use crate::layout::{Layout, Operand, Symbol};

@@ -20,6 +20,7 @@ pub use image::{ClassTable, ConfTable, Entry, Image, SizeWords, Sizes, Target};
 pub use instr::{Arg, Instr, MathOperator, OrderOperator, TrapNumber};
 pub use layout::{Layout, Operand, Symbol};
 pub use load_check::loads;
+pub use named::{Named, is_named, item_named, number_named};
 pub use object::{
     ClassRecord, CodeEntry, ConfRecord, Function, Import, ImportKind, Level, Object,
     ProtocolRecord, Requirement, SizeRecord, SubEntry, SubRequirement,

@@ -1,8 +1,9 @@
 //! What objects and images call by a symbol.
 
-ghost use Rattle.std.specs.Prelude.{◌≡◌, map};
-ghost use Rattle.evo_code.specs.Loads.{named};
+ghost use Rattle.std.specs.Prelude.{◌≡◌, map, MatchOption, Some, None};
+ghost use Rattle.evo_code.specs.Named.{named, item_named, number_from};
 
+use crate::image::{ClassTable, ConfTable, Entry, SizeWords};
 use crate::object::{ClassRecord, ConfRecord, Function, ProtocolRecord, Requirement, SizeRecord};
 use evo_base::List;
 
@@ -27,6 +28,30 @@ pub fn is_named<T: Named>(items: &List<T>, symbol: &[u8]) -> bool
         }
     }
     false
+}
+
+/// The first of these with this symbol.
+pub fn item_named<'a, T: Named>(items: &'a List<T>, symbol: &[u8]) -> Option<&'a T>
+    ensures { MatchOption result (item_named T.symbol items.now symbol.now ≡ None) (λ item. item_named T.symbol items.now symbol.now ≡ Some item.now) }
+{
+    for item in items.as_slice() {
+        if item.symbol() == symbol {
+            return Some(item);
+        }
+    }
+    None
+}
+
+/// The number of the first of these with this symbol, counted from 0.
+pub fn number_named<T: Named>(items: &[T], symbol: &[u8]) -> Option<u64>
+    ensures { result ≡ number_from 0 (map T.symbol items.now) symbol.now }
+{
+    for (number, item) in items.iter().enumerate() {
+        if item.symbol() == symbol {
+            return Some(number as u64);
+        }
+    }
+    None
 }
 
 impl Named for Function {
@@ -71,6 +96,38 @@ impl Named for ConfRecord {
 
 impl Named for Requirement {
     ghost symbol = { λ r. r.symbol };
+
+    fn symbol(&self) -> &[u8] {
+        self.symbol.as_slice()
+    }
+}
+
+impl Named for ClassTable {
+    ghost symbol = { λ item. item.symbol };
+
+    fn symbol(&self) -> &[u8] {
+        self.symbol.as_slice()
+    }
+}
+
+impl Named for ConfTable {
+    ghost symbol = { λ item. item.symbol };
+
+    fn symbol(&self) -> &[u8] {
+        self.symbol.as_slice()
+    }
+}
+
+impl Named for Entry {
+    ghost symbol = { λ item. item.name };
+
+    fn symbol(&self) -> &[u8] {
+        self.name.as_slice()
+    }
+}
+
+impl Named for SizeWords {
+    ghost symbol = { λ item. item.symbol };
 
     fn symbol(&self) -> &[u8] {
         self.symbol.as_slice()

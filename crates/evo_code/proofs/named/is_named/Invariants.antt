@@ -1,5 +1,5 @@
 use Rattle.std.proofs.Common.{◌≡◌, map, drop}
-use Rattle.evo_code.specs.Loads.{named}
+use Rattle.evo_code.specs.Named.{named}
 use Rattle.evo_code.proofs.named.is_named.Given as goal
 
 abbrev pub invariant-loop-item : goal.invariant-loop-item
