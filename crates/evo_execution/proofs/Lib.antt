@@ -1,0 +1,4 @@
+pub mod Samples
+mod Examples
+pub mod Falls
+pub mod Whole

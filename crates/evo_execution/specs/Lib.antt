@@ -1,0 +1,5 @@
+pub mod Words
+pub mod Tables
+pub mod Execution
+pub mod Loaded
+pub mod Laws
