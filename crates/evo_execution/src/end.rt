@@ -26,6 +26,13 @@ pub enum MachineFault {
     Size,
 }
 
+/// Why an instruction cannot be done.
+#[derive(Clone, Copy, Debug, PartialEq, Eq)]
+pub enum Stop {
+    Fault(MachineFault),
+    Trap(TrapKind),
+}
+
 /// How a run ends.
 #[derive(Clone, Copy, Debug, PartialEq, Eq)]
 pub enum End {

@@ -9,4 +9,4 @@
 mod end;
 pub mod laws;
 
-pub use end::{End, MachineFault, TrapKind};
+pub use end::{End, MachineFault, Stop, TrapKind};
