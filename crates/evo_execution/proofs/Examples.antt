@@ -1,5 +1,6 @@
 -- Runs of small images: results, and faults in their order.
 use Rattle.std.proofs.Common.{◌≡◌, ℕ, List, [], ◌∷◌, ◌++◌, ◌-◌, ◌^◌, Option, Some, None, true, false, codes, refl, pos, negsuc}
+use Rattle.std.specs.Prelude.{◌*ℤ◌}
 use Rattle.evo_code.specs.declared.instr.Instr.{Instr}
 use Rattle.evo_code.specs.declared.instr.Instr.TheVariants as Op
 use Rattle.evo_code.specs.declared.instr.MathOperator.TheVariants as math
@@ -12,7 +13,7 @@ use Rattle.evo_code.specs.declared.image.Target.TheVariants as target
 use Rattle.evo_execution.specs.declared.end.End.TheVariants.{Done, Trap, Budget, Fault}
 use Rattle.evo_execution.specs.declared.end.TrapKind.TheVariants as trap
 use Rattle.evo_execution.specs.declared.end.MachineFault.TheVariants as fault
-use Rattle.evo_execution.specs.Words.{Word, Empty, Integer, Truth, Boxed, Table, pack, Got, Faults, Traps, computed, equal, line_of}
+use Rattle.evo_execution.specs.Words.{Word, Empty, Integer, Truth, Boxed, Table, pack, Got, Faults, Traps, wrapped, computed, equal, line_of}
 use Rattle.evo_execution.specs.Execution.{Step, Ends}
 use Rattle.evo_execution.specs.Loaded.{image_loads}
 use Rattle.evo_execution.proofs.Samples.{value-words, slot, one_word, function, two_slots, leave, does, leaves}
@@ -51,6 +52,13 @@ round_least = refl
 
 round_product : computed math.WrappingMultiply (pos (2 ^ 62)) (pos 4) ≡ Got (pos 0)
 round_product = refl
+
+-- the product of bits is that of the numbers
+round_negative : computed math.WrappingMultiply (negsuc (2 ^ 63 - 1)) (negsuc 2) ≡ Got (wrapped (negsuc (2 ^ 63 - 1) *ℤ negsuc 2))
+round_negative = refl
+
+round_minus_one : computed math.WrappingMultiply (negsuc 0) (pos 7) ≡ Got (negsuc 6)
+round_minus_one = refl
 
 -- ---- equality and lines
 

@@ -1,0 +1,7 @@
+use Rattle.std.proofs.Common.{◌≡◌, [], ◌∷◌, map, ap, ◌∙◌}
+use Rattle.evo_interpreter.specs.Words.{word_of, put_at}
+use Rattle.evo_interpreter.proofs.Lists.{map-put}
+use Rattle.evo_interpreter.proofs.words.Words.set.Goals as goal
+
+pub returns-clause-written : goal.returns-clause-written
+returns-clause-written c = λ t. ap (map word_of) (c.set_word.ensures.written t) ∙ (map-put word_of c.self.inside.words.items c.args.at (c.args.word ∷ []) ∙ (let a = c.self.view_is in cc))

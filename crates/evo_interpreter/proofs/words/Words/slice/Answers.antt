@@ -1,0 +1,11 @@
+use Rattle.std.proofs.Common.{◌≡◌, ◌+◌, ◌-◌, List, take, drop, map, sym, ap, ◌∙◌, arith}
+use Rattle.std.proofs.lemmas.List.{take-map, drop-map}
+use Rattle.evo_execution.specs.Words.{Got}
+use Rattle.evo_execution.specs.Words as defined
+use Rattle.evo_execution.specs.Execution.{words_at}
+use Rattle.evo_interpreter.specs.Words.{word_of}
+use Rattle.evo_interpreter.proofs.Lists.{words_at-inside}
+use Rattle.evo_interpreter.proofs.words.Words.slice.Goals as goal
+
+pub returns : goal.returns
+returns c = words_at-inside word_of c.args.self.now c.deref.result.now c.args.at c.args.count (let a = c.self.view_is in let b = c.deref.ensures.value in cc) (let a = c.has.ensures in let b = c.if-not-has.false in cc)

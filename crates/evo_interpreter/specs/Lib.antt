@@ -1,0 +1,4 @@
+pub mod Words
+pub mod Integers
+pub mod Frames
+pub mod States
