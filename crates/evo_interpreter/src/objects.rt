@@ -7,7 +7,7 @@ ghost use Rattle.evo_execution.specs.Words.{and_then};
 ghost use Rattle.evo_interpreter.specs.States.{state_of, Answers, Ran};
 
 use crate::halt::{Effect, Halt};
-use crate::operands::{address, put_all, read, reference};
+use crate::operands::{address, put_all, reference};
 use crate::plain::do_put;
 use crate::state::State;
 use crate::word::{Word, copy_words};

@@ -17,8 +17,8 @@ use evo_code::{Image, Layout, Operand, Sizes, value};
 use evo_execution::{MachineFault, Stop};
 use std::alloc::Global;
 
-// The words of some layouts, one behind the other.
-fn room(layouts: &[Layout], sizes: &Sizes) -> u64
+/// The words of some layouts, one behind the other.
+pub fn room(layouts: &[Layout], sizes: &Sizes) -> u64
     ensures { result ≡ min most_words (sum (map (value sizes.now) layouts.now)) }
 {
     let mut words: u64 = 0;

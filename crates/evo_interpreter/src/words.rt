@@ -75,6 +75,15 @@ impl Words {
         Ok(())
     }
 
+    /// Puts other words at the end.
+    pub fn extend(&mut self, more: Words) -> Result<(), AllocError>
+        ensures { OnOk result (self.new ≡ self.old ++ more) }
+    {
+        let Words { words: mut more } = more;
+        self.words.append(&mut more)?;
+        Ok(())
+    }
+
     /// Puts a word at the end.
     pub fn push(&mut self, word: Word) -> Result<(), AllocError>
         ensures { OnOk result (self.new ≡ self.old ++ word_of word ∷ []) }
