@@ -1,0 +1,48 @@
+-- What ticks do to runs.
+use Rattle.std.specs.Prelude.{◌≡◌, ◌≢◌, ◌↔◌, ℕ, suc, ◌≤◌, List, ◌++◌, Option, IsTrue}
+use Rattle.evo_base.specs.declared.key.Key.{Key}
+use Rattle.evo_resolved.specs.declared.expression.RExpr.{RExpr}
+use Rattle.evo_resolved.specs.declared.statement.RBlock.{RBlock}
+use Rattle.evo_meaning.specs.Keys.{same_key}
+use Rattle.evo_meaning.specs.Values.{Value}
+use Rattle.evo_meaning.specs.Runs.{out_of_ticks, State, Outcome, goes, stops, Run}
+use Rattle.evo_meaning.specs.Programs.{MixedProgram}
+use Rattle.evo_meaning.specs.Calls.{Callee}
+use Rattle.evo_meaning.specs.Expressions.{evaluated}
+use Rattle.evo_meaning.specs.Statements.{executed_block}
+use Rattle.evo_meaning.specs.Bodies.{ended_by, context, run_body, result, beginning, top_level, run}
+
+-- the test of keys is equality
+abbrev pub SameKeyIsEquality : Type 0
+SameKeyIsEquality = (a b : Key) → IsTrue (same_key a b) ↔ (a ≡ b)
+
+-- the second begins with the first
+pub record Begins (front whole : List ℕ) : Type 0 where
+  pub rest : List ℕ
+  pub is : whole ≡ front ++ rest
+
+abbrev pub TicksFall : {A : Type 0} → State → Outcome A → Type 0
+TicksFall s (goes answer t) = t.ticks ≤ s.ticks
+TicksFall s (stops reason printed) = Unit {0}
+
+abbrev pub Falling : {A : Type 0} → Run A → Type 0
+Falling m = (s : State) → TicksFall s (m s)
+
+-- the ticks left never exceed those given: of a body, and of each expression and block in one
+pub record TicksNeverRise : Type 0 where
+  pub bodies : (n : ℕ) (p : MixedProgram) (callee : Callee) (self : Option Value) (arguments : List Value) → Falling (run_body n p callee self arguments)
+  pub blocks : (n turns : ℕ) (p : MixedProgram) (callee : Callee) (b : RBlock) → Falling (executed_block (context turns p callee (run_body n p)) b)
+  pub expressions : (n turns : ℕ) (p : MixedProgram) (callee : Callee) (e : RExpr) → Falling (evaluated (context turns p callee (run_body n p)) e)
+
+-- what is printed with a number of ticks is the front of what is printed with one more
+abbrev pub OutputGrows : Type 0
+OutputGrows = (p : MixedProgram) (n : ℕ) → Begins (run p n).printed (run p (suc n)).printed
+
+-- a run that does not end by its ticks is the same with one more
+abbrev pub EndStays : Type 0
+EndStays = (p : MixedProgram) (n : ℕ) → (run p n).«end» ≢ ended_by out_of_ticks → run p (suc n) ≡ run p n
+
+-- a bound that is no less than the ticks that are left is never met: any other gives the same
+pub record BoundIsFree : Type 0 where
+  pub bodies : (n m : ℕ) (p : MixedProgram) (callee : Callee) (self : Option Value) (arguments : List Value) (s : State) → s.ticks ≤ n → n ≤ m → run_body m p callee self arguments s ≡ run_body n p callee self arguments s
+  pub programs : (p : MixedProgram) (n m : ℕ) → n ≤ m → result (top_level m p (beginning n)) ≡ run p n

@@ -1,0 +1,10 @@
+pub mod Keys
+pub mod Values
+pub mod Runs
+pub mod Programs
+pub mod Operators
+pub mod Calls
+pub mod Expressions
+pub mod Statements
+pub mod Bodies
+pub mod Laws
