@@ -6,5 +6,7 @@ pub mod TickLaws
 pub mod Fuel
 pub mod SameKey
 pub mod Equations
+pub mod Trees
 pub mod Samples
-mod Trial
+mod ReleaseExamples
+mod ClientExamples

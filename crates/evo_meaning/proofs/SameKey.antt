@@ -10,6 +10,7 @@ use Rattle.evo_meaning.specs.Keys.{mark_number, mark_names, same_mark, same_mark
 use Rattle.evo_meaning.specs.Laws.{SameKeyIsEquality}
 use Rattle.std.specs.Cmp.Lexicographic.{bytes_decides}
 use Rattle.std.proofs.Math.Bool.{true≢false}
+use Rattle.std.proofs.lemmas.Bool.{eq-eqb}
 
 abbrev first : List Text → Text
 first [] = []
@@ -112,8 +113,7 @@ joined_tests : {a b : Bool} → a ≡ true → b ≡ true → (a && b) ≡ true
 joined_tests {a} {b} e f = rw (e, f) refl
 
 number_refl : (n : ℕ) → (n == n) ≡ true
-number_refl zero = refl
-number_refl (suc n) = number_refl n
+number_refl n = eq-eqb n n refl
 
 same_names_refl : (xs : List Text) → same_names xs xs ≡ true
 same_names_refl [] = refl

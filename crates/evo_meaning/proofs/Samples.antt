@@ -1,14 +1,12 @@
 -- Resolved modules, of which the examples are made. Evaluation reads no place and no type, so each has one and the same here.
-use Rattle.std.proofs.Common.{ℕ, ℤ, List, [], ◌∷◌, map, codes, Option, Some, None, Bool}
-use Rattle.evo_base.specs.declared.place.Place.{Place}
+use Rattle.std.proofs.Common.{ℕ, ℤ, List, [], ◌∷◌, map, codes, Option, Some, None, Bool, true}
 use Rattle.evo_base.specs.declared.key.Key.{Key}
-use Rattle.evo_base.specs.declared.key.ProtocolName.{ProtocolName}
 use Rattle.evo_base.specs.declared.key.Mark.{Mark}
 use Rattle.evo_base.specs.declared.key.Mark.TheVariants as mark
 use Rattle.evo_tree.specs.declared.declaration.NominalKind.{NominalKind}
 use Rattle.evo_tree.specs.declared.declaration.NominalKind.TheVariants as nominal
 use Rattle.evo_tree.specs.declared.expression.InfixOperator.{InfixOperator}
-use Rattle.evo_tree.specs.declared.expression.PrefixOperator.TheVariants as prefix
+use Rattle.evo_tree.specs.declared.expression.PrefixOperator.TheVariants as before
 use Rattle.evo_tree.specs.declared.statement.Introducer.TheVariants as introducer
 use Rattle.evo_tree.specs.declared.statement.AssignmentOperator.{AssignmentOperator}
 use Rattle.evo_resolved.specs.declared.path.ConfPath.{ConfPath}
@@ -17,26 +15,15 @@ use Rattle.evo_resolved.specs.declared.resolved_type.RType.{RType}
 use Rattle.evo_resolved.specs.declared.resolved_type.RType.TheVariants as type
 use Rattle.evo_resolved.specs.declared.resolved_type.RTypeName.{RTypeName}
 use Rattle.evo_resolved.specs.declared.resolved_type.RReference.{RReference}
-use Rattle.evo_resolved.specs.declared.expression.Literal.TheVariants as literal
+use Rattle.evo_resolved.specs.declared.expression.Literal.TheVariants as lit
 use Rattle.evo_resolved.specs.declared.expression.Reach.{Reach}
 use Rattle.evo_resolved.specs.declared.expression.Reach.TheVariants as reach
 use Rattle.evo_resolved.specs.declared.expression.RUse.{RUse}
 use Rattle.evo_resolved.specs.declared.expression.Variable.TheVariants as variable
-use Rattle.evo_resolved.specs.declared.expression.Builtin.TheVariants as builtin
-use Rattle.evo_resolved.specs.declared.expression.RExpr.{RExpr}
-use Rattle.evo_resolved.specs.declared.expression.RExpr.TheVariants as x
-use Rattle.evo_resolved.specs.declared.expression.RMember.{RMember}
-use Rattle.evo_resolved.specs.declared.expression.RMember.TheVariants as y
-use Rattle.evo_resolved.specs.declared.statement.RRoot.TheVariants as root
-use Rattle.evo_resolved.specs.declared.statement.RPlace.{RPlace}
-use Rattle.evo_resolved.specs.declared.statement.RPattern.{RPattern}
+use Rattle.evo_resolved.specs.declared.expression.Builtin.TheVariants as function_of
 use Rattle.evo_resolved.specs.declared.statement.RPattern.TheVariants as pattern
 use Rattle.evo_resolved.specs.declared.statement.RClauseLabel.{RClauseLabel}
 use Rattle.evo_resolved.specs.declared.statement.RClauseLabel.TheVariants as label
-use Rattle.evo_resolved.specs.declared.statement.RBlock.{RBlock, roll-RBlock}
-use Rattle.evo_resolved.specs.declared.statement.RClause.{RClause, roll-RClause}
-use Rattle.evo_resolved.specs.declared.statement.RStmt.{RStmt}
-use Rattle.evo_resolved.specs.declared.statement.RStmt.TheVariants as z
 use Rattle.evo_resolved.specs.declared.declaration.Standing.{Standing}
 use Rattle.evo_resolved.specs.declared.declaration.Standing.TheVariants as standing
 use Rattle.evo_resolved.specs.declared.declaration.Kept.TheVariants as kept
@@ -48,6 +35,7 @@ use Rattle.evo_resolved.specs.declared.declaration.RDeclKind.TheVariants as kind
 use Rattle.evo_resolved.specs.declared.declaration.RDecl.{RDecl}
 use Rattle.evo_resolved.specs.declared.body.BodyRole.TheVariants as role
 use Rattle.evo_resolved.specs.declared.body.RBody.{RBody}
+use Rattle.evo_resolved.specs.declared.module.ModuleKind.{ModuleKind}
 use Rattle.evo_resolved.specs.declared.module.ModuleKind.TheVariants as module_kind
 use Rattle.evo_resolved.specs.declared.module.RWitness.{RWitness}
 use Rattle.evo_resolved.specs.declared.module.RSubtable.{RSubtable}
@@ -57,13 +45,10 @@ use Rattle.evo_resolved.specs.declared.module.RProtocol.{RProtocol}
 use Rattle.evo_resolved.specs.declared.module.RModule.{RModule}
 use Rattle.evo_names.specs.Keys.{start_key}
 use Rattle.evo_names.specs.Listed.{Text}
+use Rattle.evo_meaning.specs.Runs.{Trap, out_of_ticks, trapped}
 use Rattle.evo_meaning.specs.Programs.{MixedProgram}
-
-abbrev pub at : Place
-at = record { line = 1; col = 1 }
-
-abbrev pub a_type : RType
-a_type = type.NoValue
+use Rattle.evo_meaning.specs.Bodies.{Result, done, ended_by}
+use Rattle.evo_meaning.proofs.Trees.{at, a_type, Term, literal, local_term, self_term, prefix, members, case_term, new, call, super, builtin, Terms, no_term, term, no_member, property, method, Statement, expression, assign, assign_behind, branch, Statements, no_statement, statement, if_branch, else_branch, Clauses, no_clause, clause, block_of}
 
 abbrev pub a_type_name : RTypeName
 a_type_name = record { place = at; aliases = []; ty = a_type }
@@ -88,14 +73,14 @@ abbrev pub function : Text → Text → List Text → Key
 function m n labels = key m (m ∷ []) n (Some labels) []
 
 -- members of a type: they stand in its context
-abbrev pub method : Key → Text → List Text → Key
-method t n labels = key t.module (t.module ∷ t.base ∷ []) n (Some labels) []
+abbrev pub method_key : Key → Text → List Text → Key
+method_key t n labels = key t.module (t.module ∷ t.base ∷ []) n (Some labels) []
 
-abbrev pub property : Key → Text → Key
-property t n = key t.module (t.module ∷ t.base ∷ []) n None []
+abbrev pub property_key : Key → Text → Key
+property_key t n = key t.module (t.module ∷ t.base ∷ []) n None []
 
 abbrev pub init : Key → List Text → Key
-init t labels = method t (codes "init") labels
+init t labels = method_key t (codes "init") labels
 
 abbrev pub marked : Key → Mark → Key
 marked k m = record k { part = record { marks = m ∷ [] } }
@@ -107,16 +92,20 @@ abbrev pub setter : Key → Key
 setter k = marked k mark.Set
 
 abbrev pub requirement : Key → Text → List Text → Key
-requirement p n labels = marked (method p n labels) mark.Requirement
+requirement p n labels = marked (method_key p n labels) mark.Requirement
 
 abbrev pub property_requirement : Key → Text → Key
-property_requirement p n = marked (property p n) mark.Requirement
+property_requirement p n = marked (property_key p n) mark.Requirement
 
 -- the conformance of a type to a protocol, declared by a module
 abbrev pub conforming : Text → Key → Key → Key
 conforming m t p = record t { «module» = m; part = record { marks = mark.Conformance (record { «module» = p.module; name = p.base }) ∷ [] } }
 
 -- ---- expressions
+
+abbrev pub terms : List Term → Terms
+terms [] = no_term
+terms (t ∷ ts) = term t (terms ts)
 
 abbrev pub use_of : Reach → Key → List ConfPath → RUse
 use_of r k paths = record { place = at; key = k; reach = r; written = None; types = []; paths = paths; ty = a_type }
@@ -127,95 +116,93 @@ static k = use_of reach.Static k []
 abbrev pub dispatched : Key → RUse
 dispatched k = use_of reach.Dispatched k []
 
-abbrev pub int : ℤ → RExpr
-int n = x.Literal (literal.Integer n)
+-- a call of a generic function, with the conformances that its signature requires
+abbrev pub call_with : Key → List ConfPath → List Term → Term
+call_with k paths ts = call (use_of reach.Static k paths) (terms ts)
 
-abbrev pub bool : Bool → RExpr
-bool b = x.Literal (literal.Boolean b)
+abbrev pub required : Key → ConfPath → RUse
+required k path = use_of reach.Witness k (path ∷ [])
 
-abbrev pub text : Text → RExpr
-text s = x.Literal (literal.String s)
+-- the conformance that the body was given at this number, and a declared one
+abbrev pub given : ℕ → ConfPath
+given n = record { start = start.Required n; steps = [] }
 
-abbrev pub local : ℕ → RExpr
-local n = x.Local at n a_type
+abbrev pub the : Key → ConfPath
+the k = record { start = start.Declared k; steps = [] }
 
-abbrev pub self : RExpr
-self = x.SelfValue at a_type
+abbrev pub int : ℤ → Term
+int n = literal (lit.Integer n)
 
-abbrev pub binary : InfixOperator → RExpr → RExpr → RExpr
-binary o a b = x.Chain a ((o, b) ∷ []) a_type
+abbrev pub bool : Bool → Term
+bool b = literal (lit.Boolean b)
 
-abbrev pub minus : RExpr → RExpr
-minus e = x.Prefix prefix.Minus e
+abbrev pub text : Text → Term
+text s = literal (lit.String s)
 
-abbrev pub call : Key → List RExpr → RExpr
-call k es = x.Call (static k, es)
+abbrev pub local : ℕ → Term
+local n = local_term n
 
-abbrev pub new : Key → List RExpr → RExpr
-new k es = x.New (static k, es)
+abbrev pub self : Term
+self = self_term
 
-abbrev pub case : Key → List RExpr → RExpr
-case k es = x.Case (static k, es)
+abbrev pub minus : Term → Term
+minus t = prefix before.Minus t
 
--- the property of a value, and the same of `self` that is not written
-abbrev pub get : RExpr → Key → RExpr
-get e k = x.Members e (y.Property (static k) ∷ [])
+abbrev pub call_of : RUse → List Term → Term
+call_of u ts = call u (terms ts)
 
-abbrev pub own : Key → RExpr
-own k = get self k
+abbrev pub call_to : Key → List Term → Term
+call_to k ts = call (static k) (terms ts)
 
--- a method of a value that is not dispatched, and one that is
-abbrev pub send : RExpr → Key → List RExpr → RExpr
-send e k es = x.Members e (y.Called (static k, es) ∷ [])
+abbrev pub new_of : Key → List Term → Term
+new_of k ts = new (static k) (terms ts)
 
-abbrev pub send_dispatched : RExpr → Key → List RExpr → RExpr
-send_dispatched e k es = x.Members e (y.Called (dispatched k, es) ∷ [])
+abbrev pub case : Key → List Term → Term
+case k ts = case_term (static k) (terms ts)
 
--- a requirement of a value, by the conformance at the end of a path
-abbrev pub send_required : RExpr → Key → ConfPath → List RExpr → RExpr
-send_required e k path es = x.Members e (y.Called (use_of reach.Witness k (path ∷ []), es) ∷ [])
+abbrev pub above : Key → List Term → Term
+above k ts = super (dispatched k) (terms ts)
 
--- a call of a generic function
-abbrev pub call_with : Key → List ConfPath → List RExpr → RExpr
-call_with k paths es = x.Call (use_of reach.Static k paths, es)
+-- the property of a value, and of `self` where that is not written
+abbrev pub get : Term → Key → Term
+get t k = members t (property (static k) no_member)
 
-abbrev pub required : ℕ → ConfPath
-required n = record { start = start.Required n; steps = [] }
+abbrev pub own : Key → Term
+own k = get self_term k
 
-abbrev pub declared_conformance : Key → ConfPath
-declared_conformance k = record { start = start.Declared k; steps = [] }
+abbrev pub send : Term → RUse → List Term → Term
+send t u ts = members t (method u (terms ts) no_member)
 
 -- ---- statements
 
-abbrev pub block : List RStmt → RBlock
-block ss = roll-RBlock (record { statements = ss; «end» = at })
+abbrev pub all_of : List Statement → Statements
+all_of [] = no_statement
+all_of (s ∷ ss) = statement s (all_of ss)
 
-abbrev pub print : List RExpr → RStmt
-print es = z.Expr (x.Builtin at builtin.Print es)
+abbrev pub print : List Term → Statement
+print ts = expression (builtin function_of.Print (terms ts))
 
-abbrev pub let' : ℕ → RExpr → RStmt
-let' n e = z.Local at n None e
+abbrev pub change_local : ℕ → List Key → AssignmentOperator → Term → Statement
+change_local n ks o t = assign (variable.Local n) (map static ks) o t
 
-abbrev pub return : RExpr → RStmt
-return e = z.Return at (Some e)
+abbrev pub change_self : List Key → AssignmentOperator → Term → Statement
+change_self ks o t = assign variable.SelfValue (map static ks) o t
 
-abbrev pub fill : Key → RExpr → RStmt
-fill k e = z.Fill at k e
+abbrev pub change_in : Term → List Key → AssignmentOperator → Term → Statement
+change_in t ks o u = assign_behind t (map static ks) o u
 
-abbrev pub assign_local : ℕ → List Key → AssignmentOperator → RExpr → RStmt
-assign_local n ks o e = z.Assign at (record { place = at; root = root.Variable (variable.Local n); steps = map static ks }) o e
+abbrev pub if_else : Term → List Statement → List Statement → Statement
+if_else t ss others = branch (if_branch t (all_of ss) (else_branch (all_of others)))
 
-abbrev pub assign_self : List Key → AssignmentOperator → RExpr → RStmt
-assign_self ks o e = z.Assign at (record { place = at; root = root.Variable variable.SelfValue; steps = map static ks }) o e
-
-abbrev pub assign_object : RExpr → List Key → AssignmentOperator → RExpr → RStmt
-assign_object r ks o e = z.Assign at (record { place = at; root = root.Object r; steps = map static ks }) o e
-
-abbrev pub clause : RClauseLabel → List RStmt → RClause
-clause l ss = roll-RClause (record { place = at; label = l; statements = ss })
+abbrev pub clauses : List (RClauseLabel × List Statement) → Clauses
+clauses [] = no_clause
+clauses (c ∷ cs) = clause c.0 (all_of c.1) (clauses cs)
 
 abbrev pub on_case : Key → List (Option ℕ) → RClauseLabel
 on_case k ns = label.Case (pattern.Case at None k ns ∷ [])
+
+abbrev pub on_int : ℤ → RClauseLabel
+on_int n = label.Case (pattern.Literal at (lit.Integer n) ∷ [])
 
 -- ---- declarations
 
@@ -237,6 +224,9 @@ in_class t = standing.Braces nominal.Class t
 abbrev pub stored : Standing → Key → RDecl
 stored s k = declared k s (kind.Property introducer.Var a_type_name kept.Stored)
 
+abbrev pub computed : Standing → Key → RDecl
+computed s k = declared k s (kind.Property introducer.Var a_type_name (kept.Computed true))
+
 abbrev pub reference : Key → RReference
 reference k = record { place = at; key = k }
 
@@ -251,21 +241,21 @@ abbrev pub overriding : Key → Key → Key → RDecl
 overriding c root own = record { place = at; name_place = at; key = root; own = own; standing = in_class c; attrs = []; modifiers = []; kind = kind.Function (header []) }
 
 abbrev pub override_of : Key → Text → Key
-override_of c n = marked (method c n []) mark.Override
+override_of c n = marked (method_key c n []) mark.Override
 
 abbrev pub unwritten_init : Key → List Text → RDecl
 unwritten_init t labels = declared (init t labels) (in_struct t) (kind.Initialiser (header labels))
 
 -- ---- bodies
 
-abbrev pub body : Key → Standing → List RStmt → RBody
+abbrev pub body : Key → Standing → List Statement → RBody
 body k s ss = record {
   owner = k;
   scope = record { role = role.Plain; signature = no_signature; standing = s; declared = record { self_type = None; parameters = []; result = a_type }; self_type = None; result = a_type; locals = [] };
-  block = Some (block ss);
+  block = Some (block_of (all_of ss));
 }
 
-abbrev pub at_top : Key → List RStmt → RBody
+abbrev pub at_top : Key → List Statement → RBody
 at_top k ss = body k standing.TopLevel ss
 
 -- ---- conformances and protocols
@@ -287,15 +277,41 @@ default r member = record { requirement = r; member = member }
 
 -- ---- modules
 
-abbrev pub library : List RDecl → List RBody → RModule
-library ds bs = record { kind = module_kind.Library; name = lib; release = None; decls = ds; memberwise = []; protocols = []; conformances = []; bodies = bs }
+abbrev pub module_with : ModuleKind → Text → List RDecl → List RDecl → List RProtocol → List RConformance → List RBody → RModule
+module_with k n ds memberwise protocols conformances bodies = record { kind = k; name = n; release = None; decls = ds; memberwise = memberwise; protocols = protocols; conformances = conformances; bodies = bodies }
 
--- a client with its declarations, bodies and top level
-abbrev pub client : List RDecl → List RBody → List RStmt → RModule
-client ds bs ss = record { kind = module_kind.Client; name = main; release = None; decls = ds; memberwise = []; protocols = []; conformances = []; bodies = at_top start_key ss ∷ bs }
+-- a library, or an interface with its inlinable bodies
+abbrev pub library : List RDecl → List RBody → RModule
+library ds bodies = module_with module_kind.Library lib ds [] [] [] bodies
 
 abbrev pub empty : RModule
 empty = library [] []
 
+-- a client with declarations, the initialisers that its structs do not write, bodies, and its top level
+abbrev pub client : List RDecl → List RDecl → List RBody → List Statement → RModule
+client ds memberwise bodies ss = module_with module_kind.Client main ds memberwise [] [] (at_top start_key ss ∷ bodies)
+
+abbrev pub client_conforming : List RConformance → RModule → RModule
+client_conforming conformances m = record m { conformances = conformances }
+
+abbrev pub library_conforming : List RProtocol → List RConformance → RModule → RModule
+library_conforming protocols conformances m = record m { protocols = protocols; conformances = conformances }
+
+-- a client that was built against an interface and runs with a library
 abbrev pub mixed : RModule → RModule → RModule → MixedProgram
-mixed c old new = record { client = c; old = old; new = new }
+mixed c before after = record { client = c; old = before; new = after }
+
+-- a client that needs no library
+abbrev pub alone : RModule → MixedProgram
+alone c = mixed c empty empty
+
+-- ---- results
+
+abbrev pub prints : Text → Result
+prints s = record { printed = s; «end» = done }
+
+abbrev pub out_after : Text → Result
+out_after s = record { printed = s; «end» = ended_by out_of_ticks }
+
+abbrev pub traps : Trap → Text → Result
+traps t s = record { printed = s; «end» = ended_by (trapped t) }

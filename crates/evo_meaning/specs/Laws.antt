@@ -1,5 +1,5 @@
 -- What ticks do to runs.
-use Rattle.std.specs.Prelude.{◌≡◌, ◌≢◌, ◌↔◌, ℕ, suc, ◌≤◌, List, ◌++◌, Option, IsTrue}
+use Rattle.std.specs.Prelude.{◌≡◌, ◌≢◌, ◌↔◌, ℕ, ◌≤◌, List, ◌++◌, Option, IsTrue}
 use Rattle.evo_base.specs.declared.key.Key.{Key}
 use Rattle.evo_resolved.specs.declared.expression.RExpr.{RExpr}
 use Rattle.evo_resolved.specs.declared.statement.RBlock.{RBlock}
@@ -34,13 +34,13 @@ pub record TicksNeverRise : Type 0 where
   pub blocks : (n turns : ℕ) (p : MixedProgram) (callee : Callee) (b : RBlock) → Falling (executed_block (context turns p callee (run_body n p)) b)
   pub expressions : (n turns : ℕ) (p : MixedProgram) (callee : Callee) (e : RExpr) → Falling (evaluated (context turns p callee (run_body n p)) e)
 
--- what is printed with a number of ticks is the front of what is printed with one more
+-- what is printed with some ticks is the front of what is printed with more
 abbrev pub OutputGrows : Type 0
-OutputGrows = (p : MixedProgram) (n : ℕ) → Begins (run p n).printed (run p (suc n)).printed
+OutputGrows = (p : MixedProgram) (n m : ℕ) → n ≤ m → Begins (run p n).printed (run p m).printed
 
--- a run that does not end by its ticks is the same with one more
+-- a run that does not end by its ticks is the same with more
 abbrev pub EndStays : Type 0
-EndStays = (p : MixedProgram) (n : ℕ) → (run p n).«end» ≢ ended_by out_of_ticks → run p (suc n) ≡ run p n
+EndStays = (p : MixedProgram) (n m : ℕ) → n ≤ m → (run p n).«end» ≢ ended_by out_of_ticks → run p m ≡ run p n
 
 -- a bound that is no less than the ticks that are left is never met: any other gives the same
 pub record BoundIsFree : Type 0 where

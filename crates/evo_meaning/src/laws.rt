@@ -14,12 +14,12 @@ pub fn ticks_never_rise()
     ensures { TicksNeverRise }
 {}
 
-/// With one tick more a run prints as much or more, and nothing else before.
+/// With more ticks a run prints as much or more, and nothing else before.
 pub fn output_grows()
     ensures { OutputGrows }
 {}
 
-/// A run that does not end by its ticks is the same with one more.
+/// A run that does not end by its ticks is the same with more.
 pub fn end_stays()
     ensures { EndStays }
 {}
