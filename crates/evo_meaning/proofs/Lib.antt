@@ -10,3 +10,6 @@ pub mod Trees
 pub mod Samples
 mod ReleaseExamples
 mod ClientExamples
+mod ClassExamples
+mod PlaceExamples
+mod ConformanceExamples

@@ -1,6 +1,5 @@
 -- What a client does with another release than the one that it was built against: which bodies run, and what is stored.
 use Rattle.std.proofs.Common.{◌≡◌, ℕ, ℤ, pos, List, [], ◌∷◌, codes, Some, None, true, false, refl}
-use Rattle.std.specs.Fmt.{digits}
 use Rattle.evo_base.specs.declared.key.Key.{Key}
 use Rattle.evo_tree.specs.declared.expression.InfixOperator.TheVariants as op
 use Rattle.evo_resolved.specs.declared.declaration.Kept.TheVariants as kept
@@ -8,12 +7,10 @@ use Rattle.evo_resolved.specs.declared.declaration.RDecl.{RDecl}
 use Rattle.evo_resolved.specs.declared.body.RBody.{RBody}
 use Rattle.evo_resolved.specs.declared.module.RModule.{RModule}
 use Rattle.evo_resolved.specs.declared.statement.RClauseLabel.TheVariants as label
-use Rattle.evo_meaning.specs.Keys.{same_key, look_up}
-use Rattle.evo_meaning.specs.Runs.{◌>>=◌, on_store, tick, write}
-use Rattle.evo_meaning.specs.Programs.{MixedProgram, tables_of, subtable_along, declared_by_class, implementation_from}
-use Rattle.evo_meaning.specs.Bodies.{run, run_body}
-use Rattle.evo_meaning.proofs.Trees.{chain, fill, return, switch, does, done_by, block_does}
-use Rattle.evo_meaning.proofs.Samples.{lib, main, named, function, method_key, property_key, init, getter, requirement, conforming, static, dispatched, required, given, the, int, text, local, self, call_to, call_with, new_of, case, get, own, send, print, if_else, clauses, on_case, in_struct, in_class, stored, computed, class, class_function, body, at_top, met, conformance, library, empty, client, client_conforming, mixed, prints, out_after}
+use Rattle.evo_meaning.specs.Programs.{MixedProgram}
+use Rattle.evo_meaning.specs.Bodies.{run}
+use Rattle.evo_meaning.proofs.Trees.{chain, fill, return, switch, block_does}
+use Rattle.evo_meaning.proofs.Samples.{lib, main, named, function, method_key, property_key, init, getter, requirement, conforming, static, dispatched, required, given, the, int, text, local, self, call_to, call_with, new_of, case, get, own, send, print, if_else, clauses, on_case, in_struct, in_class, stored, computed, class, class_function, body, at_top, met, conformance, library, empty, client, client_conforming, mixed, prints, out_after, running}
 
 -- ---- func f() -> Int { return 1 }, then { return 2 }; print(f())
 
@@ -28,25 +25,25 @@ prints_f = client [] [] [] (print (call_to f [] ∷ []) ∷ [])
 
 -- the new library's body
 new_body : run (mixed prints_f empty (library [] (returning (pos 2) ∷ []))) 2 ≡ prints (codes "2\n")
-unfolding run run_body ◌>>=◌ on_store tick write digits same_key look_up tables_of does done_by
+unfolding running
 new_body = rw (block_does, block_does) refl
 
 same_release : run (mixed prints_f empty (library [] (returning (pos 1) ∷ []))) 2 ≡ prints (codes "1\n")
-unfolding run run_body ◌>>=◌ on_store tick write digits same_key look_up tables_of does done_by
+unfolding running
 same_release = rw (block_does, block_does) refl
 
 -- its entry takes the second tick
 new_body_wants_two : run (mixed prints_f empty (library [] (returning (pos 2) ∷ []))) 1 ≡ out_after []
-unfolding run run_body ◌>>=◌ on_store tick write digits same_key look_up tables_of does done_by
+unfolding running
 new_body_wants_two = rw block_does refl
 
 -- inlinable in both: the old body, which the client copied
 old_body : run (mixed prints_f (library [] (returning (pos 1) ∷ [])) (library [] (returning (pos 2) ∷ []))) 2 ≡ prints (codes "1\n")
-unfolding run run_body ◌>>=◌ on_store tick write digits same_key look_up tables_of does done_by
+unfolding running
 old_body = rw (block_does, block_does) refl
 
 old_body_wants_two : run (mixed prints_f (library [] (returning (pos 1) ∷ [])) (library [] (returning (pos 2) ∷ []))) 1 ≡ out_after []
-unfolding run run_body ◌>>=◌ on_store tick write digits same_key look_up tables_of does done_by
+unfolding running
 old_body_wants_two = rw block_does refl
 
 -- ---- an inlinable g that calls h, which is not inlinable: the copy of g calls the new h
@@ -58,7 +55,7 @@ abbrev h : Key
 h = function lib (codes "h") []
 
 copy_calls_new : run (mixed (client [] [] [] (print (call_to g [] ∷ []) ∷ [])) (library [] (at_top g (return (call_to h []) ∷ []) ∷ [])) (library [] (at_top h (return (int (pos 2)) ∷ []) ∷ at_top g (return (chain (call_to h []) op.Add (int (pos 10))) ∷ []) ∷ []))) 3 ≡ prints (codes "2\n")
-unfolding run run_body ◌>>=◌ on_store tick write digits same_key look_up tables_of does done_by
+unfolding running
 copy_calls_new = rw (block_does, block_does, block_does) refl
 
 -- ---- struct S { var x: Int; init() { x = 7 } }; print(S().x)
@@ -87,23 +84,23 @@ computed_x : RModule
 computed_x = library (computed (in_struct s) x ∷ []) (body (init s []) (in_struct s) [] ∷ body (getter x) (in_struct s) (return (int (pos 7)) ∷ []) ∷ [])
 
 stored_with_two : run (mixed prints_x empty stored_x) 2 ≡ prints (codes "7\n")
-unfolding run run_body ◌>>=◌ on_store tick write digits same_key look_up tables_of does done_by
+unfolding running
 stored_with_two = rw (block_does, block_does) refl
 
 stored_wants_two : run (mixed prints_x empty stored_x) 1 ≡ out_after []
-unfolding run run_body ◌>>=◌ on_store tick write digits same_key look_up tables_of does done_by
+unfolding running
 stored_wants_two = rw block_does refl
 
 padded : run (mixed prints_x empty padded_x) 2 ≡ prints (codes "7\n")
-unfolding run run_body ◌>>=◌ on_store tick write digits same_key look_up tables_of does done_by padded_x
+unfolding padded_x running
 padded = rw (block_does, block_does) refl
 
 computed_with_three : run (mixed prints_x empty computed_x) 3 ≡ prints (codes "7\n")
-unfolding run run_body ◌>>=◌ on_store tick write digits same_key look_up tables_of does done_by computed_x
+unfolding computed_x running
 computed_with_three = rw (block_does, block_does, block_does) refl
 
 computed_wants_three : run (mixed prints_x empty computed_x) 2 ≡ out_after []
-unfolding run run_body ◌>>=◌ on_store tick write digits same_key look_up tables_of does done_by computed_x
+unfolding computed_x running
 computed_wants_three = rw (block_does, block_does) refl
 
 -- ---- p is computed and inlinable in both, and then gives 2; q is computed, and then stored
@@ -115,7 +112,7 @@ abbrev q : Key
 q = property_key s (codes "q")
 
 properties_change : run (mixed (client [] [] [] (print (get (new_of (init s []) []) p ∷ get (new_of (init s []) []) q ∷ []) ∷ [])) (library [] (body (getter p) (in_struct s) (return (int (pos 1)) ∷ []) ∷ [])) (library (stored (in_struct s) q ∷ computed (in_struct s) p ∷ []) (body (init s []) (in_struct s) (fill q (int (pos 2)) ∷ []) ∷ body (getter p) (in_struct s) (return (int (pos 2)) ∷ []) ∷ []))) 4 ≡ prints (codes "1 2\n")
-unfolding run run_body ◌>>=◌ on_store tick write digits same_key look_up tables_of does done_by
+unfolding running
 properties_change = rw (block_does, block_does, block_does, block_does) refl
 
 -- ---- enums that get further cases
@@ -140,11 +137,11 @@ abbrev switches_make : RModule
 switches_make = client [] [] [] (switch (call_to make []) (clauses ((on_case case_a [], print (text (codes "a") ∷ []) ∷ []) ∷ (label.UnknownDefault, print (text (codes "new") ∷ []) ∷ []) ∷ [])) ∷ [])
 
 new_case : run (mixed switches_make empty (library [] (at_top make (return (case case_c []) ∷ []) ∷ []))) 2 ≡ prints (codes "new\n")
-unfolding run run_body ◌>>=◌ on_store tick write digits same_key look_up tables_of does done_by
+unfolding running
 new_case = rw (block_does, block_does) refl
 
 old_case : run (mixed switches_make empty (library [] (at_top make (return (case case_a []) ∷ []) ∷ []))) 2 ≡ prints (codes "a\n")
-unfolding run run_body ◌>>=◌ on_store tick write digits same_key look_up tables_of does done_by
+unfolding running
 old_case = rw (block_does, block_does) refl
 
 -- cases are told by their names, in whatever order a release lists them
@@ -155,7 +152,7 @@ abbrev number : Key
 number = function main (codes "s") (codes "_" ∷ [])
 
 reordered : run (mixed (client [] [] (at_top number (switch (local 0) (clauses ((on_case case_a [], return (int (pos 1)) ∷ []) ∷ (on_case case_b [], return (int (pos 2)) ∷ []) ∷ (label.Default, return (int (pos 3)) ∷ []) ∷ [])) ∷ []) ∷ []) (print (call_to number (call_to all (int (pos 0) ∷ []) ∷ []) ∷ call_to number (call_to all (int (pos 1) ∷ []) ∷ []) ∷ call_to number (case case_a [] ∷ []) ∷ []) ∷ [])) empty (library [] (at_top all (if_else (chain (local 0) op.Equal (int (pos 0))) (return (case case_c []) ∷ []) (return (case case_b []) ∷ []) ∷ []) ∷ []))) 6 ≡ prints (codes "3 2 1\n")
-unfolding run run_body ◌>>=◌ on_store tick write digits same_key look_up tables_of does done_by
+unfolding running
 reordered = rw (block_does, block_does, block_does, block_does, block_does, block_does) refl
 
 -- ---- an open and a final function of an open class, both inlinable: only what is called statically is copied
@@ -173,7 +170,7 @@ abbrev both : ℤ → List RBody
 both n = body open_f (in_class a) (return (int n) ∷ []) ∷ body final_g (in_class a) (return (int n) ∷ []) ∷ []
 
 only_static_is_copied : run (mixed (client [] [] [] (print (send (new_of (init a []) []) (dispatched open_f) [] ∷ send (new_of (init a []) []) (static final_g) [] ∷ []) ∷ [])) (library [] (both (pos 1))) (library (class a None ∷ class_function a open_f ∷ class_function a final_g ∷ []) (body (init a []) (in_class a) [] ∷ both (pos 2)))) 5 ≡ prints (codes "2 1\n")
-unfolding run run_body ◌>>=◌ on_store tick write digits same_key look_up tables_of does done_by declared_by_class implementation_from
+unfolding running
 only_static_is_copied = rw (block_does, block_does, block_does, block_does, block_does) refl
 
 -- ---- a client's conformance of a library's type: a static call runs the copy, and the requirement runs the new library's member
@@ -194,5 +191,5 @@ abbrev v_giving : ℤ → RBody
 v_giving n = body v (in_struct s) (return (int n) ∷ [])
 
 witness_is_new : run (mixed (client_conforming (conformance main s client_p (met v_required v ∷ []) [] ∷ []) (client [] [] (at_top generic (return (send (local 0) (required v_required (given 0)) []) ∷ []) ∷ []) (print (send (new_of (init s []) []) (static v) [] ∷ call_with generic (the (conforming main s client_p) ∷ []) (new_of (init s []) [] ∷ []) ∷ []) ∷ []))) (library [] (v_giving (pos 1) ∷ [])) (library [] (body (init s []) (in_struct s) [] ∷ v_giving (pos 2) ∷ []))) 6 ≡ prints (codes "1 2\n")
-unfolding run run_body ◌>>=◌ on_store tick write digits same_key look_up tables_of subtable_along does done_by
+unfolding running
 witness_is_new = rw (block_does, block_does, block_does, block_does, block_does, block_does) refl

@@ -1,5 +1,6 @@
 -- Resolved modules, of which the examples are made. Evaluation reads no place and no type, so each has one and the same here.
 use Rattle.std.proofs.Common.{ℕ, ℤ, List, [], ◌∷◌, map, codes, Option, Some, None, Bool, true}
+use Rattle.std.specs.Fmt.{digits}
 use Rattle.evo_base.specs.declared.key.Key.{Key}
 use Rattle.evo_base.specs.declared.key.Mark.{Mark}
 use Rattle.evo_base.specs.declared.key.Mark.TheVariants as mark
@@ -45,10 +46,12 @@ use Rattle.evo_resolved.specs.declared.module.RProtocol.{RProtocol}
 use Rattle.evo_resolved.specs.declared.module.RModule.{RModule}
 use Rattle.evo_names.specs.Keys.{start_key}
 use Rattle.evo_names.specs.Listed.{Text}
-use Rattle.evo_meaning.specs.Runs.{Trap, out_of_ticks, trapped}
-use Rattle.evo_meaning.specs.Programs.{MixedProgram}
-use Rattle.evo_meaning.specs.Bodies.{Result, done, ended_by}
-use Rattle.evo_meaning.proofs.Trees.{at, a_type, Term, literal, local_term, self_term, prefix, members, case_term, new, call, super, builtin, Terms, no_term, term, no_member, property, method, Statement, expression, assign, assign_behind, branch, Statements, no_statement, statement, if_branch, else_branch, Clauses, no_clause, clause, block_of}
+use Rattle.evo_meaning.specs.Keys.{same_key, look_up}
+use Rattle.evo_meaning.specs.Runs.{Trap, out_of_ticks, trapped, ◌>>=◌, on_store, tick, write}
+use Rattle.evo_meaning.specs.Programs.{MixedProgram, tables_of, subtable_along, declared_by_class, implementation_from}
+use Rattle.evo_meaning.specs.Statements.{looped}
+use Rattle.evo_meaning.specs.Bodies.{Result, done, ended_by, run, run_body}
+use Rattle.evo_meaning.proofs.Trees.{at, a_type, Term, literal, local_term, self_term, prefix, members, case_term, new, call, super, builtin, Terms, no_term, term, no_member, property, method, Statement, expression, assign, assign_behind, branch, Statements, no_statement, statement, if_branch, else_branch, Clauses, no_clause, clause, block_of, does, done_by}
 
 abbrev pub a_type_name : RTypeName
 a_type_name = record { place = at; aliases = []; ty = a_type }
@@ -315,3 +318,8 @@ out_after s = record { printed = s; «end» = ended_by out_of_ticks }
 
 abbrev pub traps : Trap → Text → Result
 traps t s = record { printed = s; «end» = ended_by (trapped t) }
+
+-- `unfolding running` lets a run be computed, but for the blocks of bodies: each that is entered is rewritten once, by `block_does`
+unfoldable pub running : Unit {0}
+unfolding run run_body ◌>>=◌ on_store tick write digits same_key look_up tables_of subtable_along declared_by_class implementation_from looped does done_by
+running = tt
