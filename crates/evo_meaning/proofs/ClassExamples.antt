@@ -7,7 +7,7 @@ use Rattle.evo_resolved.specs.declared.module.RModule.{RModule}
 use Rattle.evo_names.specs.Listed.{Text}
 use Rattle.evo_meaning.specs.Programs.{MixedProgram}
 use Rattle.evo_meaning.specs.Bodies.{run}
-use Rattle.evo_meaning.proofs.Trees.{Statement, chain, return, declare, expression, super_init, no_term, block_does}
+use Rattle.evo_meaning.proofs.Trees.{Statement, chain, return, declare, expression, super_init, no_term, block_does_at}
 use Rattle.evo_meaning.proofs.Samples.{lib, main, named, method_key, init, override_of, static, dispatched, int, text, local, self, above, send, new_of, print, in_class, reference, class, class_function, overriding, body, empty, library, client, alone, mixed, prints, out_after, running}
 
 -- prints this text
@@ -58,16 +58,16 @@ with_override =
 -- `super.f()` finds the override that the new release adds
 new_override : run (mixed heir empty with_override) 6 ≡ prints (codes "D\nB\n")
 unfolding running
-new_override = rw (block_does, block_does, block_does, block_does, block_does, block_does) refl
+new_override = simp block_does_at
 
 old_override : run (mixed heir empty without_override) 6 ≡ prints (codes "D\nA\n")
 unfolding running
-old_override = rw (block_does, block_does, block_does, block_does, block_does, block_does) refl
+old_override = simp block_does_at
 
 -- the last of six ticks is wanting
 override_wants_six : run (mixed heir empty with_override) 5 ≡ out_after (codes "D\n")
 unfolding running
-override_wants_six = rw (block_does, block_does, block_does, block_does, block_does) refl
+override_wants_six = simp block_does_at
 
 -- ---- the library's new m and the client's own m are two functions: class D: A { ..; func m() { print("client m") } }; let d = D(); d.go(); d.m()
 
@@ -82,7 +82,7 @@ client_m = method_key d (codes "m") []
 
 no_clash : run (mixed (client (class d (Some (reference a)) ∷ class_function d client_m ∷ []) [] (passing_on d a ∷ body client_m (in_class d) (says (codes "client m") ∷ []) ∷ []) (declare 0 (new_of (init d []) []) ∷ expression (send (local 0) (dispatched go) []) ∷ expression (send (local 0) (dispatched client_m) []) ∷ [])) empty (library (class a None ∷ class_function a go ∷ class_function a lib_m ∷ []) (body (init a []) (in_class a) [] ∷ body go (in_class a) (expression (send self (dispatched lib_m) []) ∷ []) ∷ body lib_m (in_class a) (says (codes "lib m") ∷ []) ∷ []))) 6 ≡ prints (codes "lib m\nclient m\n")
 unfolding running
-no_clash = rw (block_does, block_does, block_does, block_does, block_does, block_does) refl
+no_clash = simp block_does_at
 
 -- ---- each initialiser of a chain takes a tick: class A { init() { } }; class B: A { override init() { super.init() } }; let b = B(); print(1)
 
@@ -98,11 +98,11 @@ chained_inits =
 
 with_three : run chained_inits 3 ≡ prints (codes "1\n")
 unfolding running
-with_three = rw (block_does, block_does, block_does) refl
+with_three = simp block_does_at
 
 wants_three : run chained_inits 2 ≡ out_after []
 unfolding running
-wants_three = rw (block_does, block_does) refl
+wants_three = simp block_does_at
 
 -- ---- final class K { init() { } }; let a = K(); print(a === a, a === K())
 
@@ -111,4 +111,4 @@ k = named main (codes "K")
 
 identity : run (alone (client (class k None ∷ []) [] (body (init k []) (in_class k) [] ∷ []) (declare 0 (new_of (init k []) []) ∷ print (chain (local 0) op.Identical (local 0) ∷ chain (local 0) op.Identical (new_of (init k []) []) ∷ []) ∷ []))) 3 ≡ prints (codes "true false\n")
 unfolding running
-identity = rw (block_does, block_does, block_does) refl
+identity = simp block_does_at

@@ -14,7 +14,7 @@ use Rattle.evo_resolved.specs.declared.module.RModule.{RModule}
 use Rattle.evo_names.specs.Listed.{Text}
 use Rattle.evo_meaning.specs.Programs.{MixedProgram}
 use Rattle.evo_meaning.specs.Bodies.{run}
-use Rattle.evo_meaning.proofs.Trees.{Term, Statement, chain, mutate, assign, members, method, property, no_member, no_term, return, fill, declare, expression, block_does}
+use Rattle.evo_meaning.proofs.Trees.{Term, Statement, chain, mutate, assign, members, method, property, no_member, no_term, return, fill, declare, expression, block_does_at}
 use Rattle.evo_meaning.proofs.Samples.{lib, main, named, key, function, method_key, property_key, init, requirement, property_requirement, conforming, static, use_of, required, given, the, int, text, local, call_to, call_with, new_of, get, own, send, print, change_self, in_struct, stored, unwritten_init, body, at_top, met, unmet, conformance, protocol, default, empty, library, client, client_conforming, library_conforming, mixed, alone, prints, out_after, running}
 
 -- ---- public protocol P { func id() -> Int }, in the new release also func name() -> Int with a default that gives 0
@@ -55,11 +55,11 @@ shows_x =
 -- a member that the client did not record is not sought again
 default_for_new : run (mixed shows_x empty (library_conforming (protocol p (default id None ∷ default name (Some default_name) ∷ []) [] ∷ []) [] (library [] (body default_name (in_struct p) (return (int (pos 0)) ∷ []) ∷ at_top show (print (send (local 0) (required name (given 0)) [] ∷ []) ∷ []) ∷ [])))) 4 ≡ prints (codes "0\n5\n")
 unfolding running
-default_for_new = rw (block_does, block_does, block_does, block_does) refl
+default_for_new = simp block_does_at
 
 recorded_member : run (mixed shows_x empty (library_conforming (protocol p (default id None ∷ []) [] ∷ []) [] (library [] (at_top show (print (send (local 0) (required id (given 0)) [] ∷ []) ∷ []) ∷ [])))) 4 ≡ prints (codes "1\n5\n")
 unfolding running
-recorded_member = rw (block_does, block_does, block_does, block_does) refl
+recorded_member = simp block_does_at
 
 -- ---- public protocol P { associatedtype A; func v() -> A }; struct R { var k: Int; init(k: Int) { self.k = k } }; extension R: P { typealias A = Int; func v() -> Int { return k } }
 -- ---- func sum<T: P>(a: T, b: T) -> T.A where T.A == Int { return a.v() + b.v() }
@@ -108,11 +108,11 @@ sums =
 
 with_nine : run sums 9 ≡ prints (codes "18 11\n")
 unfolding sums running
-with_nine = rw (block_does, block_does, block_does, block_does, block_does, block_does, block_does, block_does, block_does) refl
+with_nine = simp block_does_at
 
 wants_nine : run sums 8 ≡ out_after []
 unfolding sums running
-wants_nine = rw (block_does, block_does, block_does, block_does, block_does, block_does, block_does, block_does) refl
+wants_nine = simp block_does_at
 
 -- ---- public protocol Q { func n() -> Int }; public protocol P { associatedtype A: Q; func a() -> A }; func deep<T: P>(_ t: T) -> Int { return t.a().n() }
 -- ---- struct X: Q { func n() -> Int { return 3 } }; struct Y: P { typealias A = X; func a() -> X { return X() } }; print(deep(Y()))
@@ -158,12 +158,12 @@ deepens subtables =
 
 behind_an_associated_type : run (mixed (deepens (record { name = a_conforms; conformance = Some (conforming main x q) } ∷ [])) empty (library [] (deep_body ∷ []))) 4 ≡ prints (codes "3\n")
 unfolding running
-behind_an_associated_type = rw (block_does, block_does, block_does, block_does) refl
+behind_an_associated_type = simp block_does_at
 
 -- where the conformance recorded nothing, the associated type is new, and the protocol's default for it serves
 behind_a_new_associated_type : run (mixed (deepens []) empty (library_conforming (protocol p [] (record { name = a_conforms; conformance = Some (conforming main x q) } ∷ []) ∷ []) [] (library [] (deep_body ∷ [])))) 4 ≡ prints (codes "3\n")
 unfolding running
-behind_a_new_associated_type = rw (block_does, block_does, block_does, block_does) refl
+behind_a_new_associated_type = simp block_does_at
 
 -- ---- public protocol P { func r() -> Int }; extension P { func r() -> Int { return 1 }; func x() -> Int { return 1 } }, which then give 3 and 4
 -- ---- func g<T: P>(_ t: T) -> Int { return t.r() * 10 + t.x() }
@@ -196,7 +196,7 @@ x_of_b = method_key b (codes "x") []
 
 extension_members : run (mixed (client_conforming (conformance main a p (unmet r_required ∷ []) [] ∷ conformance main b p (met r_required r_of_b ∷ []) [] ∷ []) (client [] (unwritten_init a [] ∷ unwritten_init b [] ∷ []) (body r_of_b (in_struct b) (return (int (pos 7)) ∷ []) ∷ body x_of_b (in_struct b) (return (int (pos 8)) ∷ []) ∷ []) (print (call_with g (the (conforming main a p) ∷ []) (new_of (init a []) [] ∷ []) ∷ call_with g (the (conforming main b p) ∷ []) (new_of (init b []) [] ∷ []) ∷ send (new_of (init b []) []) (static x_of_b) [] ∷ send (new_of (init a []) []) (use_of reach.Static x_of_p (the (conforming main a p) ∷ [])) [] ∷ []) ∷ []))) empty (library_conforming (protocol p (default r_required (Some default_r) ∷ []) [] ∷ []) [] (library [] (body default_r (in_struct p) (return (int (pos 3)) ∷ []) ∷ body x_of_p (in_struct p) (return (int (pos 4)) ∷ []) ∷ at_top g (return (chain (chain (send (local 0) (required r_required (given 0)) []) op.Multiply (int (pos 10))) op.Add (send (local 0) (use_of reach.Static x_of_p (given 0 ∷ [])) [])) ∷ []) ∷ [])))) 9 ≡ prints (codes "34 74 8 4\n")
 unfolding running
-extension_members = rw (block_does, block_does, block_does, block_does, block_does, block_does, block_does, block_does, block_does) refl
+extension_members = simp block_does_at
 
 -- ---- protocol P { mutating func up(); var n: Int { get set } }; struct S: P { var n: Int; mutating func up() { n += 1 } }
 -- ---- func g<T: P>(_ x: T) -> Int { var y = x; y.up(); y.n += 5; y.up(); return y.n }; print(g(S(n: 1)))
@@ -228,4 +228,4 @@ y_up = expression (mutate (variable.Local 1) [] (required up (given 0)) no_term)
 
 setters_and_mutation : run (alone (client_conforming (conformance main s own_p (met up up_of_s ∷ met n_of_p n_of_s ∷ []) [] ∷ []) (client (stored (in_struct s) n_of_s ∷ []) (unwritten_init s (codes "n" ∷ []) ∷ []) (body up_of_s (in_struct s) (change_self (n_of_s ∷ []) becomes.Add (int (pos 1)) ∷ []) ∷ at_top own_g (declare 1 (local 0) ∷ y_up ∷ assign (variable.Local 1) (required n_of_p (given 0) ∷ []) becomes.Add (int (pos 5)) ∷ y_up ∷ return (members (local 1) (property (required n_of_p (given 0)) no_member)) ∷ []) ∷ []) (print (call_with own_g (the (conforming main s own_p) ∷ []) (new_of (init s (codes "n" ∷ [])) (int (pos 1) ∷ []) ∷ []) ∷ []) ∷ [])))) 4 ≡ prints (codes "8\n")
 unfolding running
-setters_and_mutation = rw (block_does, block_does, block_does, block_does) refl
+setters_and_mutation = simp block_does_at

@@ -13,3 +13,4 @@ mod ClientExamples
 mod ClassExamples
 mod PlaceExamples
 mod ConformanceExamples
+mod WholeExample

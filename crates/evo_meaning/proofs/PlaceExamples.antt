@@ -8,7 +8,7 @@ use Rattle.evo_resolved.specs.declared.module.RModule.{RModule}
 use Rattle.evo_names.specs.Listed.{Text}
 use Rattle.evo_meaning.specs.Programs.{MixedProgram}
 use Rattle.evo_meaning.specs.Bodies.{run}
-use Rattle.evo_meaning.proofs.Trees.{Term, Statement, members, mutated, no_member, return, fill, declare, expression, block_does}
+use Rattle.evo_meaning.proofs.Trees.{Term, Statement, members, mutated, no_member, return, fill, declare, expression, block_does_at}
 use Rattle.evo_meaning.proofs.Samples.{main, named, function, method_key, property_key, init, getter, setter, static, dispatched, int, text, local, self, call_to, new_of, get, own, send, terms, print, change_local, change_self, change_in, in_struct, in_class, stored, computed, class, class_function, unwritten_init, body, at_top, empty, client, alone, prints, running}
 
 abbrev says : Text → Statement
@@ -52,12 +52,12 @@ with_v bodies ss =
 -- func k(o) { print("root"); return o }; func val() { print("val"); return 3 }; let o = K(); k(o).v.n = val(); print(o.s.n)
 root_first : run (with_v (at_top k (says (codes "root") ∷ return (local 0) ∷ []) ∷ at_top val (says (codes "val") ∷ return (int (pos 3)) ∷ []) ∷ []) (declare 0 (new_of (init k_type []) []) ∷ change_in (call_to k (local 0 ∷ [])) (v ∷ n ∷ []) becomes.Assign (call_to val []) ∷ print (get (get (local 0) s) n ∷ []) ∷ [])) 6 ≡ prints (codes "root\nval\nget\nset\n3\n")
 unfolding running
-root_first = rw (block_does, block_does, block_does, block_does, block_does, block_does) refl
+root_first = simp block_does_at
 
 -- let k = K(); k.go(); print(k.s.n): a `self` that is not written is a root too
 unwritten_root : run (with_v [] (declare 0 (new_of (init k_type []) []) ∷ expression (send (local 0) (static go) []) ∷ print (get (get (local 0) s) n ∷ []) ∷ [])) 5 ≡ prints (codes "get\nset\n3\n")
 unfolding running
-unwritten_root = rw (block_does, block_does, block_does, block_does, block_does) refl
+unwritten_root = simp block_does_at
 
 -- ---- final class K { var n: Int; init() { n = 1 } }; struct H { let k: K; var m: K { print("m"); return k } }; let h = H(k: K()); h.m.n += 4; print(h.k.n)
 
@@ -75,7 +75,7 @@ n_of_k = property_key k_type (codes "n")
 
 longest_root : run (alone (client (class k_type None ∷ stored (in_class k_type) n_of_k ∷ stored (in_struct h_type) k_of_h ∷ computed (in_struct h_type) m ∷ []) (unwritten_init h_type (codes "k" ∷ []) ∷ []) (body (init k_type []) (in_class k_type) (fill n_of_k (int (pos 1)) ∷ []) ∷ body (getter m) (in_struct h_type) (says (codes "m") ∷ return (own k_of_h) ∷ []) ∷ []) (declare 0 (new_of (init h_type (codes "k" ∷ [])) (new_of (init k_type []) [] ∷ [])) ∷ change_in (get (local 0) m) (n_of_k ∷ []) becomes.Add (int (pos 4)) ∷ print (get (get (local 0) k_of_h) n_of_k ∷ []) ∷ []))) 3 ≡ prints (codes "m\n5\n")
 unfolding running
-longest_root = rw (block_does, block_does, block_does) refl
+longest_root = simp block_does_at
 
 -- ---- struct In { var a: Int; var c: Int { get { print("get c"); return a } set { print("set c"); a = newValue } }; mutating func add(_ k: Int) { print("add"); a += k } }
 -- ---- struct Out { var i: In; var j: In { get { print("get j"); return i } set { print("set j"); i = newValue } } }
@@ -144,14 +144,14 @@ boxes ss =
 -- let b = Box(); box(b).p.j.c = n("v", 7); print(b.o.i.a): the last getter does not run
 outwards_and_back : run (boxes (declare 0 (new_of (init box_type []) []) ∷ change_in (call_to box (local 0 ∷ [])) (p ∷ j ∷ c ∷ []) becomes.Assign seven ∷ print (get (get (get (local 0) o) i) a ∷ []) ∷ [])) 9 ≡ prints (codes "box\nv\nget p\nget j\nset c\nset j\nset p\n7\n")
 unfolding running
-outwards_and_back = rw (block_does, block_does, block_does, block_does, block_does, block_does, block_does, block_does, block_does) refl
+outwards_and_back = simp block_does_at
 
 -- let b = Box(); box(b).p.j.add(n("v", 7)); print(b.o.i.a): the arguments stand where the right side does
 mutating_call : run (boxes (declare 0 (new_of (init box_type []) []) ∷ expression (members (call_to box (local 0 ∷ [])) (mutated (map static (p ∷ j ∷ [])) (static add) (terms (seven ∷ [])) no_member)) ∷ print (get (get (get (local 0) o) i) a ∷ []) ∷ [])) 9 ≡ prints (codes "box\nv\nget p\nget j\nadd\nset j\nset p\n8\n")
 unfolding running
-mutating_call = rw (block_does, block_does, block_does, block_does, block_does, block_does, block_does, block_does, block_does) refl
+mutating_call = simp block_does_at
 
 -- var o = Out(i: In(a: 1)); o.j.c = n("v", 7); print(o.i.a): a place without a root
 of_a_variable : run (boxes (declare 0 new_out ∷ change_local 0 (j ∷ c ∷ []) becomes.Assign seven ∷ print (get (get (local 0) i) a ∷ []) ∷ [])) 5 ≡ prints (codes "v\nget j\nset c\nset j\n7\n")
 unfolding running
-of_a_variable = rw (block_does, block_does, block_does, block_does, block_does) refl
+of_a_variable = simp block_does_at

@@ -22,7 +22,7 @@ use Rattle.evo_resolved.specs.declared.statement.RClause.{RClause, roll-RClause}
 use Rattle.evo_resolved.specs.declared.statement.RStmt.{RStmt}
 use Rattle.evo_resolved.specs.declared.statement.RStmt.TheVariants as z
 use Rattle.evo_meaning.specs.Values.{Value, nothing, enum, payload_of}
-use Rattle.evo_meaning.specs.Runs.{Run, pure, ◌>>=◌, ◌>>◌, each, local, set_local, self_value, set_self}
+use Rattle.evo_meaning.specs.Runs.{State, Run, pure, ◌>>=◌, ◌>>◌, each, local, set_local, self_value, set_self}
 use Rattle.evo_meaning.specs.Operators.{literal_value, prefixed, built_in, assigning, as_truth}
 use Rattle.evo_meaning.specs.Calls.{Context, result_of, called, called_above, get, field_set, updated, changed_variable, mutating, made, initialised_above}
 use Rattle.evo_meaning.specs.Expressions.{evaluated, evaluated_member, chained, with_members}
@@ -301,3 +301,7 @@ mutual
 pub block_does : (c : Context) (ss : Statements) → executed_block c (block_of ss) ≡ in_order (all_done c ss)
 unfolding block_of
 block_does c ss = in_block c ss (statements_are c ss)
+
+-- the same of any state
+pub block_does_at : (c : Context) (ss : Statements) (s : State) → executed_block c (block_of ss) s ≡ in_order (all_done c ss) s
+block_does_at c ss s = ap (λ run. run s) (block_does c ss)
