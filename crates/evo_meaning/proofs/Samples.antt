@@ -319,7 +319,12 @@ out_after s = record { printed = s; «end» = ended_by out_of_ticks }
 abbrev pub traps : Trap → Text → Result
 traps t s = record { printed = s; «end» = ended_by (trapped t) }
 
--- `unfolding running` lets a run be computed, but for the blocks of bodies: each that is entered is rewritten once, by `block_does`
+-- `unfolding running_statements` lets the statements of a program run, but for the terms in them and for the blocks of bodies
+unfoldable pub running_statements : Unit {0}
+unfolding run run_body ◌>>=◌ on_store tick write digits same_key look_up tables_of subtable_along declared_by_class implementation_from looped done_by
+running_statements = tt
+
+-- `unfolding running` lets it be computed but for the blocks of bodies: each that is entered is rewritten by `block_does_at`
 unfoldable pub running : Unit {0}
-unfolding run run_body ◌>>=◌ on_store tick write digits same_key look_up tables_of subtable_along declared_by_class implementation_from looped does done_by
+unfolding running_statements does
 running = tt

@@ -1,21 +1,27 @@
 -- One program with most forms: shapes of a library that changes under a client.
-use Rattle.std.proofs.Common.{◌≡◌, ℕ, ℤ, pos, List, [], ◌∷◌, codes, Some, None, true, false, refl}
+use Rattle.std.proofs.Common.{◌≡◌, ℕ, zero, suc, ℤ, pos, List, [], ◌∷◌, codes, Some, None, true, false, refl, sym, ◌∙◌, arith}
 use Rattle.evo_base.specs.declared.key.Key.{Key}
 use Rattle.evo_tree.specs.declared.expression.InfixOperator.{InfixOperator}
 use Rattle.evo_tree.specs.declared.expression.InfixOperator.TheVariants as op
 use Rattle.evo_tree.specs.declared.statement.AssignmentOperator.TheVariants as becomes
 use Rattle.evo_resolved.specs.declared.expression.Reach.TheVariants as reach
 use Rattle.evo_resolved.specs.declared.expression.Variable.TheVariants as variable
+use Rattle.evo_resolved.specs.declared.expression.Builtin.TheVariants as function_of
+use Rattle.evo_resolved.specs.declared.declaration.Standing.TheVariants as standing
 use Rattle.evo_resolved.specs.declared.declaration.RDecl.{RDecl}
 use Rattle.evo_resolved.specs.declared.statement.RClauseLabel.TheVariants as label
 use Rattle.evo_resolved.specs.declared.body.RBody.{RBody}
 use Rattle.evo_resolved.specs.declared.module.ModuleKind.TheVariants as module_kind
 use Rattle.evo_resolved.specs.declared.module.RModule.{RModule}
 use Rattle.evo_names.specs.Listed.{Text}
-use Rattle.evo_meaning.specs.Programs.{MixedProgram}
-use Rattle.evo_meaning.specs.Bodies.{run}
-use Rattle.evo_meaning.proofs.Trees.{Term, Statement, chain, mutate, no_term, return, fill, declare, switch, expression, super_init, block_does_at}
-use Rattle.evo_meaning.proofs.Samples.{main, named, function, method_key, property_key, init, requirement, override_of, conforming, static, dispatched, required, use_of, given, the, int, bool, text, local, self, terms, call_to, call_with, new_of, case, get, own, send, print, change_self, clauses, on_case, in_struct, in_class, stored, reference, class, class_function, overriding, unwritten_init, body, at_top, met, conformance, protocol, default, module_with, client, client_conforming, mixed, prints, out_after, running}
+use Rattle.evo_meaning.specs.Values.{Value, nothing, truth, struct, enum, Fields, no_field, field, no_more}
+use Rattle.evo_meaning.specs.Runs.{Object, Local, State, goes, stops, out_of_ticks}
+use Rattle.evo_meaning.specs.Programs.{MixedProgram, client_side}
+use Rattle.evo_meaning.specs.Calls.{Context, with_tables}
+use Rattle.evo_meaning.specs.Bodies.{run, run_body, context}
+use Rattle.evo_meaning.proofs.Trees.{Term, Statement, chain, mutate, builtin, no_term, does, block_of, return, fill, declare, switch, expression, super_init, block_does_at}
+use Rattle.evo_meaning.proofs.Fuel.{bound_is_free}
+use Rattle.evo_meaning.proofs.Samples.{main, all_of, named, function, method_key, property_key, init, requirement, override_of, conforming, static, dispatched, required, use_of, given, the, int, bool, text, local, self, terms, call_to, call_with, new_of, case, get, own, send, print, change_self, clauses, on_case, in_struct, in_class, stored, reference, class, class_function, overriding, unwritten_init, body, at_top, met, conformance, protocol, default, module_with, client, client_conforming, mixed, prints, out_after, running_statements, running}
 
 abbrev shapes : Text
 shapes = codes "Shapes"
@@ -191,16 +197,37 @@ show = function main (codes "show") (codes "_" ∷ [])
 
 -- let s = Square(side: 3); print(s.area(), s.describe()); let p = s.origin.moved(by: 5); print(p.x, p.y)
 -- var t = Style(width: 4); t.widen(); print(t.width, show(t.colour)); print(total(Rod(n: 2), Rod(n: 5)), Rod(n: 1).label())
-abbrev top_level : List Statement
-top_level =
-    declare 0 (new_of square_init (int (pos 3) ∷ []))
-    ∷ print (send (local 0) (dispatched area) [] ∷ send (local 0) (dispatched describe) [] ∷ [])
-    ∷ declare 1 (send (get (local 0) origin) (static moved) (int (pos 5) ∷ []))
-    ∷ print (get (local 1) x ∷ get (local 1) y ∷ [])
-    ∷ declare 2 (new_of style_init (int (pos 4) ∷ []))
-    ∷ expression (mutate (variable.Local 2) [] (static widen) no_term)
-    ∷ print (get (local 2) width ∷ call_to show (get (local 2) colour_of ∷ []) ∷ [])
-    ∷ print (call_with total (the rod_measured ∷ []) (new_rod 2 ∷ new_rod 5 ∷ []) ∷ send (new_rod 1) (use_of reach.Static label_of (the rod_measured ∷ [])) [] ∷ []) ∷ []
+abbrev printing : List Term → Term
+printing ts = builtin function_of.Print (terms ts)
+
+abbrev new_square : Term
+new_square = new_of square_init (int (pos 3) ∷ [])
+
+abbrev print_areas : Term
+print_areas = printing (send (local 0) (dispatched area) [] ∷ send (local 0) (dispatched describe) [] ∷ [])
+
+abbrev move_point : Term
+move_point = send (get (local 0) origin) (static moved) (int (pos 5) ∷ [])
+
+abbrev print_point : Term
+print_point = printing (get (local 1) x ∷ get (local 1) y ∷ [])
+
+abbrev new_style : Term
+new_style = new_of style_init (int (pos 4) ∷ [])
+
+abbrev widen_style : Term
+widen_style = mutate (variable.Local 2) [] (static widen) no_term
+
+abbrev print_style : Term
+print_style = printing (get (local 2) width ∷ call_to show (get (local 2) colour_of ∷ []) ∷ [])
+
+abbrev print_rods : Term
+print_rods = printing (call_with total (the rod_measured ∷ []) (new_rod 2 ∷ new_rod 5 ∷ []) ∷ send (new_rod 1) (use_of reach.Static label_of (the rod_measured ∷ [])) [] ∷ [])
+
+abbrev top : List Statement
+top =
+    declare 0 new_square ∷ expression print_areas ∷ declare 1 move_point ∷ expression print_point ∷ declare 2 new_style ∷ expression widen_style ∷ expression print_style
+    ∷ expression print_rods ∷ []
 
 abbrev draws : RModule
 draws =
@@ -211,7 +238,7 @@ draws =
     ∷ body rod_size (in_struct rod) (return (own n) ∷ [])
     ∷ body rod_name (in_struct rod) (return (text (codes "rod")) ∷ [])
     ∷ at_top show (switch (local 0) (clauses ((on_case red [], return (text (codes "red")) ∷ []) ∷ (on_case green [], return (text (codes "green")) ∷ []) ∷ (label.UnknownDefault, return (text (codes "other")) ∷ []) ∷ [])) ∷ []) ∷ [])
-    top_level)
+    top)
 
 -- the two programs; a run looks at one of their lists at a time
 with_the_new : MixedProgram
@@ -244,6 +271,119 @@ new_of_old : with_the_old.new ≡ old_library
 unfolding with_the_old
 new_of_old = refl
 
-new_release_wants_sixteen : run with_the_new 15 ≡ out_after (codes "9 91\n6 7\n6 other\n")
+-- ---- the top level, a term at a time
+
+-- where the top level of a program stands
+abbrev here : MixedProgram → Context
+here p = context 16 p (with_tables [] (record { side = client_side; standing = standing.TopLevel; block = block_of (all_of top) })) (run_body 15 p)
+
+abbrev at_point : List Local → List Object → ℕ → Text → State
+at_point locals heap ticks printed = record { store = record { environment = record { self = None; locals = locals }; heap = heap }; ticks = ticks; printed = printed }
+
+abbrev the_square : List Object
+the_square = record { class = square; fields = field side (Value.int (pos 3)) (field origin (struct (field x (Value.int (pos 1)) (field y (Value.int (pos 2)) no_field))) no_field) } ∷ []
+
+abbrev the_point : Value
+the_point = struct (field x (Value.int (pos 6)) (field y (Value.int (pos 7)) no_field))
+
+abbrev with_square : List Local
+with_square = record { number = 0; value = Value.object 0 } ∷ []
+
+abbrev with_point : List Local
+with_point = record { number = 0; value = Value.object 0 } ∷ record { number = 1; value = the_point } ∷ []
+
+abbrev with_style : Fields → List Local
+with_style fields = record { number = 0; value = Value.object 0 } ∷ record { number = 1; value = the_point } ∷ record { number = 2; value = struct fields } ∷ []
+
+abbrev new_fields : ℕ → Fields
+new_fields w = field dash (truth false) (field width (Value.int (pos w)) (field colour_of (enum blue no_more) no_field))
+
+abbrev old_fields : ℕ → Fields
+old_fields w = field width (Value.int (pos w)) (field colour_of (enum red no_more) no_field)
+
+-- ---- with the new release: k ticks are left behind each term
+
+new_1 : (k : ℕ) → does (here with_the_new) new_square (at_point [] [] (suc (suc (suc k))) []) ≡ goes (Value.object 0) (at_point [] the_square k [])
 unfolding running
-new_release_wants_sixteen = simp (block_does_at, client_of_new, old_of_new, new_of_new)
+new_1 k = simp (block_does_at, client_of_new, old_of_new, new_of_new)
+
+new_2 : (k : ℕ) → does (here with_the_new) print_areas (at_point with_square the_square (suc (suc (suc k))) []) ≡ goes nothing (at_point with_square the_square k (codes "9 91\n"))
+unfolding running
+new_2 k = simp (block_does_at, client_of_new, old_of_new, new_of_new)
+
+new_3 : (k : ℕ) → does (here with_the_new) move_point (at_point with_square the_square (suc (suc k)) (codes "9 91\n")) ≡ goes the_point (at_point with_square the_square k (codes "9 91\n"))
+unfolding running
+new_3 k = simp (block_does_at, client_of_new, old_of_new, new_of_new)
+
+new_4 : (k : ℕ) → does (here with_the_new) print_point (at_point with_point the_square k (codes "9 91\n")) ≡ goes nothing (at_point with_point the_square k (codes "9 91\n6 7\n"))
+unfolding running
+new_4 k = simp (block_does_at, client_of_new, old_of_new, new_of_new)
+
+new_5 : (k : ℕ) → does (here with_the_new) new_style (at_point with_point the_square (suc k) (codes "9 91\n6 7\n")) ≡ goes (struct (new_fields 4)) (at_point with_point the_square k (codes "9 91\n6 7\n"))
+unfolding running
+new_5 k = simp (block_does_at, client_of_new, old_of_new, new_of_new)
+
+new_6 : (k : ℕ) → does (here with_the_new) widen_style (at_point (with_style (new_fields 4)) the_square (suc k) (codes "9 91\n6 7\n")) ≡ goes nothing (at_point (with_style (new_fields 6)) the_square k (codes "9 91\n6 7\n"))
+unfolding running
+new_6 k = simp (block_does_at, client_of_new, old_of_new, new_of_new)
+
+new_7 : (k : ℕ) → does (here with_the_new) print_style (at_point (with_style (new_fields 6)) the_square (suc k) (codes "9 91\n6 7\n")) ≡ goes nothing (at_point (with_style (new_fields 6)) the_square k (codes "9 91\n6 7\n6 other\n"))
+unfolding running
+new_7 k = simp (block_does_at, client_of_new, old_of_new, new_of_new)
+
+new_8 : (k : ℕ) → does (here with_the_new) print_rods (at_point (with_style (new_fields 6)) the_square (suc (suc (suc (suc k)))) (codes "9 91\n6 7\n6 other\n")) ≡ goes nothing (at_point (with_style (new_fields 6)) the_square k (codes "9 91\n6 7\n6 other\n7 measured\n"))
+unfolding running
+new_8 k = simp (block_does_at, client_of_new, old_of_new, new_of_new)
+
+-- the last body, of `label`, wants one more
+new_8_wants_four : does (here with_the_new) print_rods (at_point (with_style (new_fields 6)) the_square 3 (codes "9 91\n6 7\n6 other\n")) ≡ stops out_of_ticks (codes "9 91\n6 7\n6 other\n")
+unfolding running
+new_8_wants_four = simp (block_does_at, client_of_new, old_of_new, new_of_new)
+
+new_release : run with_the_new 16 ≡ prints (codes "9 91\n6 7\n6 other\n7 measured\n")
+unfolding running_statements
+new_release = simp (block_does_at, client_of_new, old_of_new, new_of_new, new_1 12, new_2 9, new_3 7, new_4 7, new_5 6, new_6 5, new_7 4, new_8 0)
+
+new_release_wants_sixteen : run with_the_new 15 ≡ out_after (codes "9 91\n6 7\n6 other\n")
+unfolding running_statements
+new_release_wants_sixteen =
+    sym (bound_is_free.programs with_the_new 15 16 (omega arith))
+    ∙ simp (block_does_at, client_of_new, old_of_new, new_of_new, new_1 11, new_2 8, new_3 6, new_4 6, new_5 5, new_6 4, new_7 3, new_8_wants_four)
+
+-- ---- with the old release
+
+old_1 : (k : ℕ) → does (here with_the_old) new_square (at_point [] [] (suc (suc (suc k))) []) ≡ goes (Value.object 0) (at_point [] the_square k [])
+unfolding running
+old_1 k = simp (block_does_at, client_of_old, old_of_old, new_of_old)
+
+old_2 : (k : ℕ) → does (here with_the_old) print_areas (at_point with_square the_square (suc (suc (suc k))) []) ≡ goes nothing (at_point with_square the_square k (codes "9 10\n"))
+unfolding running
+old_2 k = simp (block_does_at, client_of_old, old_of_old, new_of_old)
+
+old_3 : (k : ℕ) → does (here with_the_old) move_point (at_point with_square the_square (suc (suc k)) (codes "9 10\n")) ≡ goes the_point (at_point with_square the_square k (codes "9 10\n"))
+unfolding running
+old_3 k = simp (block_does_at, client_of_old, old_of_old, new_of_old)
+
+old_4 : (k : ℕ) → does (here with_the_old) print_point (at_point with_point the_square k (codes "9 10\n")) ≡ goes nothing (at_point with_point the_square k (codes "9 10\n6 7\n"))
+unfolding running
+old_4 k = simp (block_does_at, client_of_old, old_of_old, new_of_old)
+
+old_5 : (k : ℕ) → does (here with_the_old) new_style (at_point with_point the_square (suc k) (codes "9 10\n6 7\n")) ≡ goes (struct (old_fields 4)) (at_point with_point the_square k (codes "9 10\n6 7\n"))
+unfolding running
+old_5 k = simp (block_does_at, client_of_old, old_of_old, new_of_old)
+
+old_6 : (k : ℕ) → does (here with_the_old) widen_style (at_point (with_style (old_fields 4)) the_square (suc k) (codes "9 10\n6 7\n")) ≡ goes nothing (at_point (with_style (old_fields 5)) the_square k (codes "9 10\n6 7\n"))
+unfolding running
+old_6 k = simp (block_does_at, client_of_old, old_of_old, new_of_old)
+
+old_7 : (k : ℕ) → does (here with_the_old) print_style (at_point (with_style (old_fields 5)) the_square (suc k) (codes "9 10\n6 7\n")) ≡ goes nothing (at_point (with_style (old_fields 5)) the_square k (codes "9 10\n6 7\n5 red\n"))
+unfolding running
+old_7 k = simp (block_does_at, client_of_old, old_of_old, new_of_old)
+
+old_8 : (k : ℕ) → does (here with_the_old) print_rods (at_point (with_style (old_fields 5)) the_square (suc (suc (suc (suc k)))) (codes "9 10\n6 7\n5 red\n")) ≡ goes nothing (at_point (with_style (old_fields 5)) the_square k (codes "9 10\n6 7\n5 red\n7 measured\n"))
+unfolding running
+old_8 k = simp (block_does_at, client_of_old, old_of_old, new_of_old)
+
+old_release : run with_the_old 16 ≡ prints (codes "9 10\n6 7\n5 red\n7 measured\n")
+unfolding running_statements
+old_release = simp (block_does_at, client_of_old, old_of_old, new_of_old, old_1 12, old_2 9, old_3 7, old_4 7, old_5 6, old_6 5, old_7 4, old_8 0)
