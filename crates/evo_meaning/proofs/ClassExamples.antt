@@ -1,5 +1,5 @@
 -- Objects: dispatch between a client's and a library's classes, `super`, initialisers, identity.
-use Rattle.std.proofs.Common.{◌≡◌, ℕ, pos, List, [], ◌∷◌, codes, Some, None, refl}
+use Rattle.std.proofs.Common.{◌≡◌, pos, [], ◌∷◌, codes, Some, None}
 use Rattle.evo_base.specs.declared.key.Key.{Key}
 use Rattle.evo_tree.specs.declared.expression.InfixOperator.TheVariants as op
 use Rattle.evo_resolved.specs.declared.body.RBody.{RBody}
@@ -7,7 +7,7 @@ use Rattle.evo_resolved.specs.declared.module.RModule.{RModule}
 use Rattle.evo_names.specs.Listed.{Text}
 use Rattle.evo_meaning.specs.Programs.{MixedProgram}
 use Rattle.evo_meaning.specs.Bodies.{run}
-use Rattle.evo_meaning.proofs.Trees.{Statement, chain, return, declare, expression, super_init, no_term, block_does_at}
+use Rattle.evo_meaning.proofs.Trees.{Statement, chain, declare, expression, super_init, no_term, block_does_at}
 use Rattle.evo_meaning.proofs.Samples.{lib, main, named, method_key, init, override_of, static, dispatched, int, text, local, self, above, send, new_of, print, in_class, reference, class, class_function, overriding, body, empty, library, client, alone, mixed, prints, out_after, running}
 
 -- prints this text

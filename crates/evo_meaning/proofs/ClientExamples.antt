@@ -1,5 +1,5 @@
 -- Clients alone: operators, statements, ticks, traps and what is printed.
-use Rattle.std.proofs.Common.{◌≡◌, ℕ, ℤ, pos, negsuc, List, [], ◌∷◌, codes, Option, Some, None, true, false, refl}
+use Rattle.std.proofs.Common.{◌≡◌, ℤ, pos, negsuc, List, [], ◌∷◌, codes, Some, true, false, refl}
 use Rattle.std.specs.Str.{chars}
 use Rattle.unicode_normalization.proofs.Computing.{unicode_normalization}
 use Rattle.evo_base.specs.declared.key.Key.{Key}
@@ -7,7 +7,7 @@ use Rattle.evo_tree.specs.declared.expression.InfixOperator.TheVariants as op
 use Rattle.evo_tree.specs.declared.statement.AssignmentOperator.TheVariants as becomes
 use Rattle.evo_resolved.specs.declared.expression.Builtin.TheVariants as function_of
 use Rattle.evo_resolved.specs.declared.statement.RClauseLabel.TheVariants as label
-use Rattle.evo_meaning.specs.Runs.{overflow, divide, precondition, fatal}
+use Rattle.evo_meaning.specs.Runs.{overflow, divide, precondition}
 use Rattle.evo_meaning.specs.Programs.{MixedProgram}
 use Rattle.evo_meaning.specs.Operators.{same_text}
 use Rattle.evo_meaning.specs.Bodies.{run}

@@ -1,5 +1,5 @@
 -- Generic functions and what they are given: witnesses, defaults, and tables behind associated types.
-use Rattle.std.proofs.Common.{◌≡◌, ℕ, pos, List, [], ◌∷◌, codes, Some, None, refl}
+use Rattle.std.proofs.Common.{◌≡◌, ℕ, pos, List, [], ◌∷◌, codes, Some, None}
 use Rattle.evo_base.specs.declared.key.Key.{Key}
 use Rattle.evo_base.specs.declared.key.Mark.TheVariants as mark
 use Rattle.evo_tree.specs.declared.expression.InfixOperator.TheVariants as op
@@ -11,11 +11,10 @@ use Rattle.evo_resolved.specs.declared.expression.Variable.TheVariants as variab
 use Rattle.evo_resolved.specs.declared.body.RBody.{RBody}
 use Rattle.evo_resolved.specs.declared.module.RSubtable.{RSubtable}
 use Rattle.evo_resolved.specs.declared.module.RModule.{RModule}
-use Rattle.evo_names.specs.Listed.{Text}
 use Rattle.evo_meaning.specs.Programs.{MixedProgram}
 use Rattle.evo_meaning.specs.Bodies.{run}
 use Rattle.evo_meaning.proofs.Trees.{Term, Statement, chain, mutate, assign, members, method, property, no_member, no_term, return, fill, declare, expression, block_does_at}
-use Rattle.evo_meaning.proofs.Samples.{lib, main, named, key, function, method_key, property_key, init, requirement, property_requirement, conforming, static, use_of, required, given, the, int, text, local, call_to, call_with, new_of, get, own, send, print, change_self, in_struct, stored, unwritten_init, body, at_top, met, unmet, conformance, protocol, default, empty, library, client, client_conforming, library_conforming, mixed, alone, prints, out_after, running}
+use Rattle.evo_meaning.proofs.Samples.{lib, main, named, key, function, method_key, property_key, init, requirement, property_requirement, conforming, static, use_of, required, given, the, int, local, call_with, new_of, own, send, print, change_self, in_struct, stored, unwritten_init, body, at_top, met, unmet, conformance, protocol, default, empty, library, client, client_conforming, library_conforming, mixed, alone, prints, out_after, running}
 
 -- ---- public protocol P { func id() -> Int }, in the new release also func name() -> Int with a default that gives 0
 -- ---- struct X: P { func id() -> Int { return 1 }; func name() -> Int { return 5 } }; show(X()); print(X().name())

@@ -1,16 +1,13 @@
 -- With a bound that is no less than the ticks, the bound is never met: a greater one gives the same run.
-use Rattle.std.proofs.Common.{◌≡◌, ℕ, zero, suc, ◌+◌, ◌-◌, ◌≤◌, ◌<◌, Bool, List, [], Option, Some, None, refl, sym, ap, ◌∙◌, subst, arith}
-use Rattle.evo_resolved.specs.declared.expression.RExpr.{RExpr}
-use Rattle.evo_resolved.specs.declared.statement.RBlock.{RBlock}
+use Rattle.std.proofs.Common.{◌≡◌, ℕ, zero, suc, ◌+◌, ◌-◌, ◌≤◌, ◌<◌, Bool, List, [], Option, Some, None, refl, sym, ap, ◌∙◌, arith}
 use Rattle.evo_meaning.specs.Values.{Value}
 use Rattle.evo_meaning.specs.Runs.{Stop, out_of_ticks, Store, State, Outcome, goes, stops, Run, pure, stop, go_on, with_store, on_store, ◌>>=◌, ◌>>◌, ticked, tick, write, within, or_stuck}
 use Rattle.evo_meaning.specs.Programs.{MixedProgram, client_side, static_implementation}
 use Rattle.evo_names.specs.Keys.{start_key}
 use Rattle.evo_meaning.specs.Calls.{Reply, Callee, with_tables}
-use Rattle.evo_meaning.specs.Expressions.{evaluated}
 use Rattle.evo_meaning.specs.Statements.{Completion, looped, executed_block}
 use Rattle.evo_meaning.specs.Bodies.{reply, context, numbered, run_body, result, beginning, top_level, run}
-use Rattle.evo_meaning.specs.Laws.{TicksFall, Falling, TicksNeverRise, BoundIsFree}
+use Rattle.evo_meaning.specs.Laws.{TicksFall, TicksNeverRise, BoundIsFree}
 use Rattle.evo_meaning.proofs.Forms.{Kept, keeps_choice, keeps_after_turn, keeps_block, keeps_expression, keeps_reply, keeps_within}
 
 -- ticks fall in the first, and the second does the same where no more than k are left

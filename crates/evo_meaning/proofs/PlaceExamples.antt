@@ -1,15 +1,13 @@
 -- Places: in which order roots, right sides, getters and setters run.
-use Rattle.std.proofs.Common.{◌≡◌, ℕ, pos, List, [], ◌∷◌, map, codes, Some, None, refl}
+use Rattle.std.proofs.Common.{◌≡◌, pos, List, [], ◌∷◌, map, codes, None}
 use Rattle.evo_base.specs.declared.key.Key.{Key}
 use Rattle.evo_tree.specs.declared.statement.AssignmentOperator.TheVariants as becomes
-use Rattle.evo_resolved.specs.declared.declaration.RDecl.{RDecl}
 use Rattle.evo_resolved.specs.declared.body.RBody.{RBody}
-use Rattle.evo_resolved.specs.declared.module.RModule.{RModule}
 use Rattle.evo_names.specs.Listed.{Text}
 use Rattle.evo_meaning.specs.Programs.{MixedProgram}
 use Rattle.evo_meaning.specs.Bodies.{run}
 use Rattle.evo_meaning.proofs.Trees.{Term, Statement, members, mutated, no_member, return, fill, declare, expression, block_does_at}
-use Rattle.evo_meaning.proofs.Samples.{main, named, function, method_key, property_key, init, getter, setter, static, dispatched, int, text, local, self, call_to, new_of, get, own, send, terms, print, change_local, change_self, change_in, in_struct, in_class, stored, computed, class, class_function, unwritten_init, body, at_top, empty, client, alone, prints, running}
+use Rattle.evo_meaning.proofs.Samples.{main, named, function, method_key, property_key, init, getter, setter, static, int, text, local, self, call_to, new_of, get, own, send, terms, print, change_local, change_self, change_in, in_struct, in_class, stored, computed, class, class_function, unwritten_init, body, at_top, client, alone, prints, running}
 
 abbrev says : Text → Statement
 says s = print (text s ∷ [])

@@ -1,16 +1,13 @@
 -- What a client does with another release than the one that it was built against: which bodies run, and what is stored.
-use Rattle.std.proofs.Common.{◌≡◌, ℕ, ℤ, pos, List, [], ◌∷◌, codes, Some, None, true, false, refl}
+use Rattle.std.proofs.Common.{◌≡◌, ℤ, pos, List, [], ◌∷◌, codes, None}
 use Rattle.evo_base.specs.declared.key.Key.{Key}
 use Rattle.evo_tree.specs.declared.expression.InfixOperator.TheVariants as op
-use Rattle.evo_resolved.specs.declared.declaration.Kept.TheVariants as kept
-use Rattle.evo_resolved.specs.declared.declaration.RDecl.{RDecl}
 use Rattle.evo_resolved.specs.declared.body.RBody.{RBody}
 use Rattle.evo_resolved.specs.declared.module.RModule.{RModule}
 use Rattle.evo_resolved.specs.declared.statement.RClauseLabel.TheVariants as label
-use Rattle.evo_meaning.specs.Programs.{MixedProgram}
 use Rattle.evo_meaning.specs.Bodies.{run}
 use Rattle.evo_meaning.proofs.Trees.{chain, fill, return, switch, block_does_at}
-use Rattle.evo_meaning.proofs.Samples.{lib, main, named, function, method_key, property_key, init, getter, requirement, conforming, static, dispatched, required, given, the, int, text, local, self, call_to, call_with, new_of, case, get, own, send, print, if_else, clauses, on_case, in_struct, in_class, stored, computed, class, class_function, body, at_top, met, conformance, library, empty, client, client_conforming, mixed, prints, out_after, running}
+use Rattle.evo_meaning.proofs.Samples.{lib, main, named, function, method_key, property_key, init, getter, requirement, conforming, static, dispatched, required, given, the, int, text, local, call_to, call_with, new_of, case, get, send, print, if_else, clauses, on_case, in_struct, in_class, stored, computed, class, class_function, body, at_top, met, conformance, library, empty, client, client_conforming, mixed, prints, out_after, running}
 
 -- ---- func f() -> Int { return 1 }, then { return 2 }; print(f())
 

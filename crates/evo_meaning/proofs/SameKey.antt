@@ -6,7 +6,7 @@ use Rattle.evo_base.specs.declared.key.Key.{Key}
 use Rattle.evo_base.specs.declared.key.Mark.TheVariants as mark
 use Rattle.evo_names.specs.Listed.{Text}
 use Rattle.evo_names.specs.Meets.{same_names, same_labels}
-use Rattle.evo_meaning.specs.Keys.{mark_number, mark_names, same_mark, same_marks, same_key}
+use Rattle.evo_meaning.specs.Keys.{mark_number, mark_names, same_marks, same_key}
 use Rattle.evo_meaning.specs.Laws.{SameKeyIsEquality}
 use Rattle.std.specs.Cmp.Lexicographic.{bytes_decides}
 use Rattle.std.proofs.Math.Bool.{true≢false}

@@ -4,16 +4,12 @@ use Rattle.std.specs.Fmt.{digits}
 use Rattle.evo_base.specs.declared.key.Key.{Key}
 use Rattle.evo_base.specs.declared.key.Mark.{Mark}
 use Rattle.evo_base.specs.declared.key.Mark.TheVariants as mark
-use Rattle.evo_tree.specs.declared.declaration.NominalKind.{NominalKind}
 use Rattle.evo_tree.specs.declared.declaration.NominalKind.TheVariants as nominal
-use Rattle.evo_tree.specs.declared.expression.InfixOperator.{InfixOperator}
 use Rattle.evo_tree.specs.declared.expression.PrefixOperator.TheVariants as before
 use Rattle.evo_tree.specs.declared.statement.Introducer.TheVariants as introducer
 use Rattle.evo_tree.specs.declared.statement.AssignmentOperator.{AssignmentOperator}
 use Rattle.evo_resolved.specs.declared.path.ConfPath.{ConfPath}
 use Rattle.evo_resolved.specs.declared.path.ConfStart.TheVariants as start
-use Rattle.evo_resolved.specs.declared.resolved_type.RType.{RType}
-use Rattle.evo_resolved.specs.declared.resolved_type.RType.TheVariants as type
 use Rattle.evo_resolved.specs.declared.resolved_type.RTypeName.{RTypeName}
 use Rattle.evo_resolved.specs.declared.resolved_type.RReference.{RReference}
 use Rattle.evo_resolved.specs.declared.expression.Literal.TheVariants as lit
@@ -29,7 +25,6 @@ use Rattle.evo_resolved.specs.declared.declaration.Standing.{Standing}
 use Rattle.evo_resolved.specs.declared.declaration.Standing.TheVariants as standing
 use Rattle.evo_resolved.specs.declared.declaration.Kept.TheVariants as kept
 use Rattle.evo_resolved.specs.declared.declaration.Signature.{Signature}
-use Rattle.evo_resolved.specs.declared.declaration.RParameter.{RParameter}
 use Rattle.evo_resolved.specs.declared.declaration.RHeader.{RHeader}
 use Rattle.evo_resolved.specs.declared.declaration.RDeclKind.{RDeclKind}
 use Rattle.evo_resolved.specs.declared.declaration.RDeclKind.TheVariants as kind

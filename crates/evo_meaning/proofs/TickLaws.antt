@@ -1,6 +1,6 @@
 -- A program with one tick more.
 use Rattle.std.proofs.Common.{◌≡◌, ◌≢◌, ℕ, zero, suc, ◌+◌, ◌-◌, ◌≤◌, None, [], refl, sym, ap, ◌∙◌, subst, arith}
-use Rattle.evo_meaning.specs.Runs.{out_of_ticks, stuck, trapped, Run, Outcome, goes, stops}
+use Rattle.evo_meaning.specs.Runs.{out_of_ticks, stuck, trapped, Outcome, goes, stops}
 use Rattle.evo_meaning.specs.Programs.{MixedProgram}
 use Rattle.evo_meaning.specs.Calls.{Reply, with_tables}
 use Rattle.evo_meaning.specs.Bodies.{Result, ended_by, result, beginning, top_level, run}

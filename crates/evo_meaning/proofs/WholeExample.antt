@@ -1,5 +1,5 @@
 -- One program with most forms: shapes of a library that changes under a client.
-use Rattle.std.proofs.Common.{◌≡◌, ℕ, zero, suc, ℤ, pos, List, [], ◌∷◌, codes, Some, None, true, false, refl, sym, ◌∙◌, arith}
+use Rattle.std.proofs.Common.{◌≡◌, ℕ, suc, pos, List, [], ◌∷◌, codes, Some, None, false, refl, sym, ◌∙◌, arith}
 use Rattle.evo_base.specs.declared.key.Key.{Key}
 use Rattle.evo_tree.specs.declared.expression.InfixOperator.{InfixOperator}
 use Rattle.evo_tree.specs.declared.expression.InfixOperator.TheVariants as op
@@ -21,7 +21,7 @@ use Rattle.evo_meaning.specs.Calls.{Context, with_tables}
 use Rattle.evo_meaning.specs.Bodies.{run, run_body, context}
 use Rattle.evo_meaning.proofs.Trees.{Term, Statement, chain, mutate, builtin, no_term, does, block_of, return, fill, declare, switch, expression, super_init, block_does_at}
 use Rattle.evo_meaning.proofs.Fuel.{bound_is_free}
-use Rattle.evo_meaning.proofs.Samples.{main, all_of, named, function, method_key, property_key, init, requirement, override_of, conforming, static, dispatched, required, use_of, given, the, int, bool, text, local, self, terms, call_to, call_with, new_of, case, get, own, send, print, change_self, clauses, on_case, in_struct, in_class, stored, reference, class, class_function, overriding, unwritten_init, body, at_top, met, conformance, protocol, default, module_with, client, client_conforming, mixed, prints, out_after, running_statements, running}
+use Rattle.evo_meaning.proofs.Samples.{main, all_of, named, function, method_key, property_key, init, requirement, override_of, conforming, static, dispatched, required, use_of, given, the, int, bool, text, local, self, terms, call_to, call_with, new_of, case, get, own, send, change_self, clauses, on_case, in_struct, in_class, stored, reference, class, class_function, overriding, unwritten_init, body, at_top, met, conformance, protocol, default, module_with, client, client_conforming, mixed, prints, out_after, running_statements, running}
 
 abbrev shapes : Text
 shapes = codes "Shapes"

@@ -1,5 +1,5 @@
 -- What written bodies do, and whole programs.
-use Rattle.std.specs.Prelude.{ℕ, zero, suc, List, [], ◌∷◌, Option, Some, None}
+use Rattle.std.specs.Prelude.{ℕ, zero, suc, List, [], ◌∷◌, Option, None}
 use Rattle.evo_names.specs.Keys.{start_key}
 use Rattle.evo_meaning.specs.Values.{Value, nothing}
 use Rattle.evo_meaning.specs.Runs.{Stop, out_of_ticks, stuck, Local, State, Outcome, goes, stops, Run, pure, stop, ◌>>=◌, ◌>>◌, tick, or_stuck, self_if_any, within}

@@ -1,7 +1,11 @@
 //! What the definitions of runs say of each other. Each law is the contract of a function with an empty body.
 
 ghost use Rattle.evo_meaning.specs.Laws.{
-    BoundIsFree, EndStays, OutputGrows, SameKeyIsEquality, TicksNeverRise,
+  BoundIsFree,
+  EndStays,
+  OutputGrows,
+  SameKeyIsEquality,
+  TicksNeverRise,
 };
 
 /// The test by which declarations, bodies, conformances and fields are found holds of equal keys alone.
