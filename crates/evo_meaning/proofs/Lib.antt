@@ -5,6 +5,7 @@ pub mod Ticks
 pub mod TickLaws
 pub mod Fuel
 pub mod SameKey
+pub mod LookUps
 pub mod Equations
 pub mod Trees
 pub mod Samples

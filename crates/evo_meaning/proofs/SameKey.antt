@@ -58,11 +58,11 @@ back (mark.Thunk s) = refl
 pub one_mark : (a b : Mark) → mark_number a ≡ mark_number b → mark_names a ≡ mark_names b → a ≡ b
 one_mark a b e f = sym (back a) ∙ ap (λ n. mark_of n (mark_names a)) e ∙ ap (mark_of (mark_number b)) f ∙ back b
 
-left : (a b : Bool) → (a && b) ≡ true → a ≡ true
+pub left : (a b : Bool) → (a && b) ≡ true → a ≡ true
 left true b e = refl
 left false b e = e
 
-right : (a b : Bool) → (a && b) ≡ true → b ≡ true
+pub right : (a b : Bool) → (a && b) ≡ true → b ≡ true
 right true b e = e
 right false b e = absurd (true≢false (sym e))
 

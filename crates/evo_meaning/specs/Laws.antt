@@ -1,9 +1,14 @@
--- What ticks do to runs.
-use Rattle.std.specs.Prelude.{◌≡◌, ◌≢◌, ◌↔◌, ℕ, ◌≤◌, List, ◌++◌, Option, IsTrue}
+-- What look-ups find, and what ticks do to runs.
+use Rattle.std.specs.Prelude.{◌≡◌, ◌≢◌, ◌↔◌, ℕ, ◌≤◌, List, ◌++◌, Option, Bool, IsTrue, MatchOption}
 use Rattle.evo_base.specs.declared.key.Key.{Key}
 use Rattle.evo_resolved.specs.declared.expression.RExpr.{RExpr}
 use Rattle.evo_resolved.specs.declared.statement.RBlock.{RBlock}
-use Rattle.evo_meaning.specs.Keys.{same_key}
+use Rattle.evo_resolved.specs.declared.declaration.RDecl.{RDecl}
+use Rattle.evo_resolved.specs.declared.body.RBody.{RBody}
+use Rattle.evo_resolved.specs.declared.module.RConformance.{RConformance}
+use Rattle.evo_resolved.specs.Found.{IsFound}
+use Rattle.evo_resolved.specs.Named.{decl_key, is_declared, body_key, is_body, conformance_key, is_conformance}
+use Rattle.evo_meaning.specs.Keys.{same_key, look_up}
 use Rattle.evo_meaning.specs.Values.{Value}
 use Rattle.evo_meaning.specs.Runs.{out_of_ticks, State, Outcome, goes, stops, Run}
 use Rattle.evo_meaning.specs.Programs.{MixedProgram}
@@ -15,6 +20,15 @@ use Rattle.evo_meaning.specs.Bodies.{ended_by, context, run_body, result, beginn
 -- the test of keys is equality
 abbrev pub SameKeyIsEquality : Type 0
 SameKeyIsEquality = (a b : Key) → IsTrue (same_key a b) ↔ (a ≡ b)
+
+-- a look-up gives an item that has the key and is what it names, and nothing only where there is none: what `find` of resolved lists gives
+abbrev pub Finds : {A : Type 0} → (A → Key) → (A → Bool) → List A → Key → Type 0
+Finds {A} own is_named items key = MatchOption (look_up own is_named items key) ((x : A) → IsFound own is_named items key x → ⊥) (λ x. IsFound own is_named items key x)
+
+pub record LookUpFinds : Type 0 where
+  pub declarations : (items : List RDecl) (key : Key) → Finds decl_key is_declared items key
+  pub bodies : (items : List RBody) (key : Key) → Finds body_key is_body items key
+  pub conformances : (items : List RConformance) (key : Key) → Finds conformance_key is_conformance items key
 
 -- the second begins with the first
 pub record Begins (front whole : List ℕ) : Type 0 where

@@ -3,6 +3,7 @@
 ghost use Rattle.evo_meaning.specs.Laws.{
   BoundIsFree,
   EndStays,
+  LookUpFinds,
   OutputGrows,
   SameKeyIsEquality,
   TicksNeverRise,
@@ -11,6 +12,11 @@ ghost use Rattle.evo_meaning.specs.Laws.{
 /// The test by which declarations, bodies, conformances and fields are found holds of equal keys alone.
 pub fn same_key_is_equality()
     ensures { SameKeyIsEquality }
+{}
+
+/// A look-up among declarations, bodies or conformances gives what `find` of such a list gives.
+pub fn look_up_finds()
+    ensures { LookUpFinds }
 {}
 
 /// The ticks left never exceed those given.

@@ -8,4 +8,6 @@
 
 mod laws;
 
-pub use laws::{bound_is_free, end_stays, output_grows, same_key_is_equality, ticks_never_rise};
+pub use laws::{
+    bound_is_free, end_stays, look_up_finds, output_grows, same_key_is_equality, ticks_never_rise,
+};
