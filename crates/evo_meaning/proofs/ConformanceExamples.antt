@@ -14,7 +14,7 @@ use Rattle.evo_resolved.specs.declared.module.RModule.{RModule}
 use Rattle.evo_meaning.specs.Programs.{MixedProgram}
 use Rattle.evo_meaning.specs.Bodies.{run}
 use Rattle.evo_meaning.proofs.Trees.{Term, Statement, chain, mutate, assign, members, method, property, no_member, no_term, return, fill, declare, expression, block_does_at}
-use Rattle.evo_meaning.proofs.Samples.{lib, main, named, key, function, method_key, property_key, init, requirement, property_requirement, conforming, static, use_of, required, given, the, int, local, call_with, new_of, own, send, print, change_self, in_struct, stored, unwritten_init, body, at_top, met, unmet, conformance, protocol, default, empty, library, client, client_conforming, library_conforming, mixed, alone, prints, out_after, running}
+use Rattle.evo_meaning.proofs.Samples.{lib, main, named, key, function, method_key, property_key, init, requirement, property_requirement, conforming, static, use_of, required, given, the, int, local, self, call_with, new_of, own, send, print, change_self, in_struct, stored, unwritten_init, body, at_top, met, unmet, conformance, protocol, default, empty, library, client, client_conforming, library_conforming, mixed, alone, prints, out_after, running}
 
 -- ---- public protocol P { func id() -> Int }, in the new release also func name() -> Int with a default that gives 0
 -- ---- struct X: P { func id() -> Int { return 1 }; func name() -> Int { return 5 } }; show(X()); print(X().name())
@@ -59,6 +59,11 @@ default_for_new = simp block_does_at
 recorded_member : run (mixed shows_x empty (library_conforming (protocol p (default id None ∷ []) [] ∷ []) [] (library [] (at_top show (print (send (local 0) (required id (given 0)) [] ∷ []) ∷ []) ∷ [])))) 4 ≡ prints (codes "1\n5\n")
 unfolding running
 recorded_member = simp block_does_at
+
+-- a default that calls another requirement of its `Self`: extension P { public func name() -> Int { return id() + 1 } }
+default_calls_requirement : run (mixed shows_x empty (library_conforming (protocol p (default id None ∷ default name (Some default_name) ∷ []) [] ∷ []) [] (library [] (body default_name (in_struct p) (return (chain (send self (required id (given 0)) []) op.Add (int (pos 1))) ∷ []) ∷ at_top show (print (send (local 0) (required name (given 0)) [] ∷ []) ∷ []) ∷ [])))) 5 ≡ prints (codes "2\n5\n")
+unfolding running
+default_calls_requirement = simp block_does_at
 
 -- ---- public protocol P { associatedtype A; func v() -> A }; struct R { var k: Int; init(k: Int) { self.k = k } }; extension R: P { typealias A = Int; func v() -> Int { return k } }
 -- ---- func sum<T: P>(a: T, b: T) -> T.A where T.A == Int { return a.v() + b.v() }

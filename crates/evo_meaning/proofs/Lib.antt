@@ -6,6 +6,7 @@ pub mod TickLaws
 pub mod Fuel
 pub mod SameKey
 pub mod LookUps
+pub mod Dispatch
 pub mod Equations
 pub mod Trees
 pub mod Samples

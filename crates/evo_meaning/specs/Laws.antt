@@ -1,5 +1,5 @@
 -- What look-ups find, and what ticks do to runs.
-use Rattle.std.specs.Prelude.{◌≡◌, ◌≢◌, ◌↔◌, ℕ, ◌≤◌, List, ◌++◌, Option, Bool, IsTrue, MatchOption}
+use Rattle.std.specs.Prelude.{◌≡◌, ◌≢◌, ◌↔◌, ℕ, ◌≤◌, List, ◌++◌, Option, Some, Bool, IsTrue, MatchOption}
 use Rattle.evo_base.specs.declared.key.Key.{Key}
 use Rattle.evo_resolved.specs.declared.expression.RExpr.{RExpr}
 use Rattle.evo_resolved.specs.declared.statement.RBlock.{RBlock}
@@ -11,7 +11,7 @@ use Rattle.evo_resolved.specs.Named.{decl_key, is_declared, body_key, is_body, c
 use Rattle.evo_meaning.specs.Keys.{same_key, look_up}
 use Rattle.evo_meaning.specs.Values.{Value}
 use Rattle.evo_meaning.specs.Runs.{out_of_ticks, State, Outcome, goes, stops, Run}
-use Rattle.evo_meaning.specs.Programs.{MixedProgram}
+use Rattle.evo_meaning.specs.Programs.{MixedProgram, Implementation, implementation_from}
 use Rattle.evo_meaning.specs.Calls.{Callee}
 use Rattle.evo_meaning.specs.Expressions.{evaluated}
 use Rattle.evo_meaning.specs.Statements.{executed_block}
@@ -60,3 +60,7 @@ EndStays = (p : MixedProgram) (n m : ℕ) → n ≤ m → (run p n).«end» ≢ 
 pub record BoundIsFree : Type 0 where
   pub bodies : (n m : ℕ) (p : MixedProgram) (callee : Callee) (self : Option Value) (arguments : List Value) (s : State) → s.ticks ≤ n → n ≤ m → run_body m p callee self arguments s ≡ run_body n p callee self arguments s
   pub programs : (p : MixedProgram) (n m : ℕ) → n ≤ m → result (top_level m p (beginning n)) ≡ run p n
+
+-- a body that is found with some bound on how many classes stand above one another is found with each greater one
+abbrev pub DispatchStays : Type 0
+DispatchStays = (p : MixedProgram) (class : Option Key) (root : Key) (f : Implementation) (n m : ℕ) → n ≤ m → implementation_from n p class root ≡ Some f → implementation_from m p class root ≡ Some f

@@ -2,6 +2,7 @@
 
 ghost use Rattle.evo_meaning.specs.Laws.{
   BoundIsFree,
+  DispatchStays,
   EndStays,
   LookUpFinds,
   OutputGrows,
@@ -37,4 +38,9 @@ pub fn end_stays()
 /// The bounds on calls and turns are never met before a tick is wanting.
 pub fn bound_is_free()
     ensures { BoundIsFree }
+{}
+
+/// The bound on superclasses takes nothing away: what is found with one is found with each greater one.
+pub fn dispatch_stays()
+    ensures { DispatchStays }
 {}
