@@ -1,8 +1,8 @@
 -- What is found with a bound on superclasses is found with each greater one.
-use Rattle.std.proofs.Common.{◌≡◌, ℕ, zero, suc, ◌+◌, ◌-◌, ◌≤◌, Option, Some, None, subst, arith}
+use Rattle.std.proofs.Common.{◌≡◌, ℕ, zero, suc, ◌+◌, ◌-◌, Option, Some, None, subst, arith}
 use Rattle.evo_base.specs.declared.key.Key.{Key}
 use Rattle.evo_resolved.specs.declared.declaration.RDecl.{RDecl}
-use Rattle.evo_meaning.specs.Programs.{MixedProgram, Implementation, module_of, superclass, declared_by_class, own_implementation, implementation_or, implementation_from}
+use Rattle.evo_meaning.specs.Programs.{MixedProgram, Implementation, module_of, superclass, declared_by_class, implementation_or, implementation_from}
 use Rattle.evo_meaning.specs.Laws.{DispatchStays}
 
 above : (p : MixedProgram) (f : Implementation) (d : Option RDecl) (a b : Option Implementation) → (a ≡ Some f → b ≡ Some f) → implementation_or p d a ≡ Some f → implementation_or p d b ≡ Some f

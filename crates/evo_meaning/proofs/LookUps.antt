@@ -1,5 +1,5 @@
 -- A look-up gives what stands in the list under the key.
-use Rattle.std.proofs.Common.{◌≡◌, ℕ, zero, suc, Bool, true, false, ◌&&◌, List, [], ◌∷◌, Option, Some, None, MatchOption, IsTrue, slice_get, if◌then◌else◌, refl, sym, ap, ◌∙◌, subst}
+use Rattle.std.proofs.Common.{◌≡◌, ℕ, zero, suc, Bool, true, false, ◌&&◌, List, [], ◌∷◌, Option, Some, None, MatchOption, IsTrue, slice_get, if◌then◌else◌, refl, sym, ◌∙◌, subst}
 use Rattle.std.proofs.Math.Bool.{true≢false}
 use Rattle.evo_base.specs.declared.key.Key.{Key}
 use Rattle.evo_resolved.specs.Found.{Sought, IsFound}

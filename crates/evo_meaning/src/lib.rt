@@ -9,5 +9,6 @@
 mod laws;
 
 pub use laws::{
-    bound_is_free, dispatch_stays, end_stays, look_up_finds, output_grows, same_key_is_equality, ticks_never_rise,
+    bound_is_free, dispatch_stays, end_stays, look_up_finds, output_grows, same_key_is_equality,
+    ticks_never_rise,
 };
