@@ -112,6 +112,11 @@ properties_change : run (mixed (client [] [] [] (print (get (new_of (init s []) 
 unfolding running
 properties_change = simp block_does_at
 
+-- q is computed and inlinable in the old release, and stored in the new one: the client's copy of its getter runs
+copied_getter : run (mixed (client [] [] [] (print (get (new_of (init s []) []) q ∷ []) ∷ [])) (library [] (body (getter q) (in_struct s) (return (int (pos 1)) ∷ []) ∷ [])) (library (stored (in_struct s) q ∷ []) (body (init s []) (in_struct s) (fill q (int (pos 2)) ∷ []) ∷ []))) 3 ≡ prints (codes "1\n")
+unfolding running
+copied_getter = simp block_does_at
+
 -- ---- enums that get further cases
 
 abbrev e : Key

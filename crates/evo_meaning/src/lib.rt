@@ -2,8 +2,9 @@
 //!
 //! `specs` says it over resolved trees, one clause for each form: `Values`, `Runs` (variables, objects, ticks, what is
 //! printed), `Programs` (which body runs), `Operators`, `Calls`, `Expressions`, `Statements`, `Bodies`. The laws say what
-//! ticks do. Resolved trees stand below in `evo_resolved`, keys of parts in `evo_names`; lowering stands above. The program
-//! calls nothing of it.
+//! look-ups find and what ticks do. Resolved trees stand below in `evo_resolved`, keys of parts in `evo_names`; above stands
+//! `evo_first_meaning`, by whose law the meaning that the program answers by is a case of this one. The program calls nothing
+//! of it.
 #![tactic(auto)]
 
 mod laws;
