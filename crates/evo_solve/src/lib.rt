@@ -1,0 +1,15 @@
+//! What requirements make of types: which are equal, which one stands for its equals, and how a type comes to conform.
+//!
+//! `specs` says it: `Equal` is the relation, `Canonical` the type that stands for its equals and when requirements
+//! conflict, `Words` the order of the required conformances, `Ways` the paths of conformances and which is the first,
+//! `Stands` what a type is at given type arguments. Signatures and types stand below in `evo_resolved`; typing, the
+//! checks of declarations and lowering stand above, and the table of declarations hands in `Declarations`.
+#![tactic(auto)]
+
+mod classes;
+mod declarations;
+mod path;
+mod universe;
+
+pub use declarations::{Declarations, DeclaredConformance, Protocol, Subtable};
+pub use path::{Path, SolveFault, Word};
