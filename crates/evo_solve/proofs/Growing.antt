@@ -97,7 +97,7 @@ placing_more written nodes new pairs n i p a b = record {
       (h.0, h.1, h.2, h.3, h.4, has_added nodes new s.left i (path_of h.1.ty) p b h.5, has_added nodes new s.right i (path_of h.3.ty) p b h.6);
 }
 
-before_or_at : (k n : ℕ) → k < n + 1 → (k < n) ⊎ (k ≡ n)
+pub before_or_at : (k n : ℕ) → k < n + 1 → (k < n) ⊎ (k ≡ n)
 before_or_at k zero less = inr (omega arith)
 before_or_at zero (suc n) less = inl (omega arith)
 before_or_at (suc k) (suc n) less = elim (before_or_at k n (omega arith)) [ inl a ↦ inl (omega arith) | inr b ↦ inr (ap suc b) ]

@@ -1,3 +1,9 @@
 pub mod Lists
 pub mod Growing
 pub mod Closing
+pub mod Ordered
+pub mod Walking
+pub mod Offers
+pub mod Standing
+pub mod Comparing
+pub mod Putting

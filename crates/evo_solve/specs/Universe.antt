@@ -15,7 +15,7 @@ use Rattle.evo_solve.specs.declared.universe.Origin.{Origin}
 use Rattle.evo_solve.specs.declared.universe.Origin.TheVariants.{Root, Taken}
 use Rattle.evo_solve.specs.declared.universe.Sides.{Sides}
 use Rattle.evo_solve.specs.declared.classes.Couple.{Couple}
-use Rattle.evo_solve.specs.Equal.{Equal, alone, path_of, taken}
+use Rattle.evo_solve.specs.Equal.{Equal, alone, parameter, path_of, taken}
 use Rattle.evo_solve.specs.Canonical.{IsNamed, NotAfter, path_order}
 
 -- ---- nodes
@@ -104,6 +104,17 @@ Walks nodes reps c (n ∷ ns) d = (e : ℕ) × Child nodes reps c n e × Walks n
 abbrev pub Has : List Node → List ℕ → Path → ℕ → Type 0
 Has nodes reps p c = (d : ℕ) × RootAt nodes reps p.first d × Walks nodes reps d p.names c
 
+abbrev pub IsNamedRoot : Node → Type 0
+IsNamedRoot x = (x.origin ≡ Root) × IsNamed x.path.first
+
+-- if they are two named types, they are one
+abbrev pub Alike : Node → Node → Type 0
+Alike x y = IsNamedRoot x → IsNamedRoot y → x.path.first ≡ y.path.first
+
+-- each class has one named type at most
+abbrev pub Agree : List Node → List ℕ → Type 0
+Agree nodes reps = (t u : RType) (c : ℕ) → IsNamed t → IsNamed u → RootAt nodes reps t c → RootAt nodes reps u c → t ≡ u
+
 -- the classes are those of these requirements
 pub record IsSolved (written : List RRequirement) (nodes : List Node) (reps : List ℕ) : Type 0 where
   pub size : length reps ≡ length nodes
@@ -129,6 +140,50 @@ offer_by reps bests x (Taken p n) = option_map (λ b. taken b n) (best_of bests 
 abbrev pub offer : List ℕ → List (Option Path) → Node → Option Path
 offer reps bests x = offer_by reps bests x x.origin
 
+abbrev pub improves : Option Path → Path → Bool
+improves None p = true
+improves (Some b) p = is_lt (path_order p b)
+
 abbrev pub lesser : Option Path → Path → Path
 lesser None p = p
 lesser (Some b) p = cond (is_lt (path_order p b)) p b
+
+-- what a node offers stands in the lists
+abbrev pub Offered : List ℕ → List (Option Path) → Node → Origin → Type 0
+Offered reps bests x Root = Unit {0}
+Offered reps bests x (Taken p n) = (p < length reps) × (rep reps p < length bests)
+
+-- each node stands in a class, which is a node
+pub record InRange (nodes : List Node) (reps : List ℕ) : Type 0 where
+  pub size : length reps ≡ length nodes
+  pub grown : Grown nodes
+  pub inside : (i : ℕ) → i < length nodes → rep reps i < length nodes
+
+-- one path is there where another was, and does not come after it
+abbrev pub Improves : Option Path → Path → Type 0
+Improves o b = (d : Path) × (o ≡ Some d) × NotAfter d b
+
+-- the paths are over parameters, and are those of their classes
+pub record Sound (nodes : List Node) (reps : List ℕ) (bests : List (Option Path)) : Type 0 where
+  pub has : (c : ℕ) (b : Path) → best_of bests c ≡ Some b → Has nodes reps b c
+  pub over : (c : ℕ) (b : Path) → best_of bests c ≡ Some b → (i : ℕ) × (b.first ≡ ty.Param i)
+
+-- no path of fewer names comes before them
+abbrev pub Least : List Node → List ℕ → ℕ → List (Option Path) → Type 0
+Least nodes reps k bests = (i : ℕ) (ns : List Text) (c : ℕ) → length ns < k → Has nodes reps (parameter i ns) c → Improves (best_of bests c) (parameter i ns)
+
+-- the first nodes have made their offers
+pub record Relaxed (nodes : List Node) (reps : List ℕ) (old new : List (Option Path)) (n : ℕ) : Type 0 where
+  pub size : length new ≡ length old
+  pub lower : (c : ℕ) (b : Path) → best_of old c ≡ Some b → Improves (best_of new c) b
+  pub offered : (i : ℕ) (x : Node) (b : Path) → i < n → slice_get nodes i ≡ Some x → offer reps old x ≡ Some b → Improves (best_of new (rep reps i)) b
+  pub sound : Sound nodes reps old → Sound nodes reps new
+
+-- a path as a type
+abbrev pub type_by : RType → List Text → RType
+type_by (ty.Param i) [] = ty.Param i
+type_by (ty.Param i) (n ∷ ns) = ty.Assoc i (n ∷ ns)
+type_by t ns = t
+
+abbrev pub type_of : Path → RType
+type_of p = type_by p.first p.names

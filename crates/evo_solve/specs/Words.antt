@@ -62,5 +62,5 @@ abbrev pub self_word : Option Key → List Word
 self_word None = []
 self_word (Some p) = word (ty.Param 0) p ∷ []
 
-unfoldable pub table_words : Signature → List Word
+abbrev pub table_words : Signature → List Word
 table_words s = self_word s.protocol ++ put_all s.requirements []

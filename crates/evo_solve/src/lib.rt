@@ -6,10 +6,20 @@
 //! checks of declarations and lowering stand above, and the table of declarations hands in `Declarations`.
 #![tactic(auto)]
 
+mod best;
 mod classes;
+mod conflict;
 mod declarations;
+mod laws;
+mod order;
 mod path;
+mod representative;
 mod universe;
+mod words;
 
+pub use conflict::first_conflict;
 pub use declarations::{Declarations, DeclaredConformance, Protocol, Subtable};
+pub use laws::one_canonical;
 pub use path::{Path, SolveFault, Word};
+pub use representative::canonical;
+pub use words::table_words;

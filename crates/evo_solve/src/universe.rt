@@ -32,7 +32,8 @@ pub struct Sides {
     pub right: usize,
 }
 
-fn with_name(alloc: Global, path: &Path, name: &Name) -> Result<Path, AllocError>
+/// The path with a name behind it.
+pub fn with_name(alloc: Global, path: &Path, name: &Name) -> Result<Path, AllocError>
     ensures { IfOk result (λ p. p ≡ equal.taken path.now name.now) }
 {
     let first = path.first.copy(alloc)?;
