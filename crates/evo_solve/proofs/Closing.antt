@@ -2,8 +2,6 @@
 use Rattle.std.proofs.Common.{◌≡◌, ℕ, zero, suc, ◌+◌, ◌<◌, ◌≤◌, List, [], ◌∷◌, ◌++◌, length, get_or, map, take, drop, set, add-one, Some, slice_get, Bool, true, false, cond, ◌==◌, inl, inr, refl, sym, ◌∙◌, ap, subst, arith, eq-eqb}
 use Rattle.std.proofs.lemmas.Bool.{eqb-true, ne_eqb}
 use Rattle.std.proofs.lemmas.List.{get_or-map, append-nil}
-use Rattle.evo_base.specs.declared.place.Place.{Place}
-use Rattle.evo_resolved.specs.declared.resolved_type.RTypeName.{RTypeName}
 use Rattle.evo_resolved.specs.declared.declaration.RRequirement.{RRequirement}
 use Rattle.evo_names.specs.Listed.{Text}
 use Rattle.evo_solve.specs.declared.path.Path.{Path}
@@ -13,7 +11,7 @@ use Rattle.evo_solve.specs.declared.universe.Origin.TheVariants.{Root, Taken}
 use Rattle.evo_solve.specs.declared.universe.Sides.{Sides}
 use Rattle.evo_solve.specs.declared.classes.Couple.{Couple}
 use Rattle.evo_solve.specs.Equal.{Equal, held, same, turned, joined, member, taken, path_of}
-use Rattle.evo_solve.specs.Universe.{GrownBy, Grown, HasPath, Added, Placing, Closed, Gap, Represented, IsSolved, Linked, LinkedBy, redirect, rep, total}
+use Rattle.evo_solve.specs.Universe.{GrownBy, Grown, Added, Placing, Closed, Gap, Represented, IsSolved, Linked, LinkedBy, redirect, rep, total}
 use Rattle.evo_solve.proofs.Lists.{below_length, at_place, take_all}
 use Rattle.evo_solve.proofs.Growing.{path_eq, placing_more}
 

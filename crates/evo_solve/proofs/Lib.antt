@@ -7,3 +7,7 @@ pub mod Offers
 pub mod Standing
 pub mod Comparing
 pub mod Putting
+pub mod Levels
+pub mod Leading
+pub mod Founding
+pub mod OnePath

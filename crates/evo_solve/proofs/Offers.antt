@@ -1,5 +1,5 @@
 -- Rounds of offers find the first path of each class.
-use Rattle.std.proofs.Common.{◌≡◌, ℕ, zero, suc, ◌+◌, ◌<◌, List, [], ◌∷◌, ◌++◌, length, get_or, set, Option, Some, None, slice_get, Bool, true, false, cond, ◌==◌, ◌⊎◌, inl, inr, refl, sym, ◌∙◌, ap, subst, arith, length-append, eq-eqb}
+use Rattle.std.proofs.Common.{◌≡◌, ℕ, zero, suc, ◌+◌, ◌<◌, List, [], ◌∷◌, ◌++◌, length, set, Option, Some, None, slice_get, Bool, true, false, cond, ◌==◌, ◌⊎◌, inl, inr, refl, sym, ◌∙◌, ap, subst, arith, length-append, eq-eqb}
 use Rattle.std.proofs.lemmas.Bool.{eqb-true}
 use Rattle.std.proofs.lemmas.List.{get_or-set_same, get_or-set_other, length-set}
 use Rattle.std.specs.Option.{option_map}
@@ -13,7 +13,7 @@ use Rattle.evo_solve.specs.declared.universe.Origin.{Origin}
 use Rattle.evo_solve.specs.declared.universe.Origin.TheVariants.{Root, Taken}
 use Rattle.evo_solve.specs.Equal.{taken, parameter}
 use Rattle.evo_solve.specs.Canonical.{NotAfter, path_order}
-use Rattle.evo_solve.specs.Universe.{Grown, InRange, RootAt, Child, Walks, Has, rep, best_of, root_offer, offer_by, offer, lesser, Improves, Offered, Sound, Least, Relaxed}
+use Rattle.evo_solve.specs.Universe.{InRange, Walks, Has, rep, best_of, root_offer, offer_by, offer, lesser, Improves, Offered, Sound, Least, Relaxed}
 use Rattle.evo_solve.proofs.Growing.{path_eq}
 use Rattle.evo_solve.proofs.Closing.{rooted, branched}
 use Rattle.evo_solve.proofs.Walking.{has_taken, has_back}

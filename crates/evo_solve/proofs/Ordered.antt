@@ -1,13 +1,12 @@
 -- The order of paths is total, and taking an associated name keeps it.
-use Rattle.std.proofs.Common.{◌≡◌, ℕ, zero, suc, ◌+◌, ◌<◌, List, [], ◌∷◌, ◌++◌, length, Bool, true, false, refl, sym, ◌∙◌, ap, subst, arith, length-append, inl, inr, ◌⊎◌}
-use Rattle.std.specs.Ordering.{nat_cmp, ordering_then, ordering_reverse, is_gt, is_lt, is_eq, MatchOrdering}
+use Rattle.std.proofs.Common.{◌≡◌, ℕ, ◌<◌, List, [], ◌∷◌, ◌++◌, length, true, false, refl, sym, ◌∙◌, ap, arith, length-append}
+use Rattle.std.specs.Ordering.{nat_cmp, ordering_then, ordering_reverse, is_gt, is_lt, MatchOrdering}
 use Rattle.std.specs.Cmp.{IsTotalOrder}
 use Rattle.std.specs.Cmp.Lexicographic.{slice_cmp}
 use Rattle.std.specs.declared.cmp.Ordering.{Ordering}
 use Rattle.std.specs.declared.cmp.Ordering.TheVariants.{Less, Equal, Greater}
 use Rattle.std.proofs.lemmas.Cmp.{nat_cmp_total, nat_list_cmp_total, lists_total, then_total, on_total, tied_itself, upto, ranked}
 use Rattle.evo_names.specs.Listed.{Text}
-use Rattle.evo_resolved.specs.declared.resolved_type.RType.{RType}
 use Rattle.evo_solve.specs.declared.path.Path.{Path}
 use Rattle.evo_solve.specs.Equal.{taken}
 use Rattle.evo_solve.specs.Canonical.{name_order, names_order, number, path_order, NotAfter}

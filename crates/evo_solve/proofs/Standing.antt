@@ -1,5 +1,5 @@
 -- The type that stands for a class.
-use Rattle.std.proofs.Common.{◌≡◌, ℕ, zero, suc, ◌+◌, ◌<◌, ◌≤◌, List, [], ◌∷◌, length, take, Option, Some, None, Result, Ok, Err, IfOk, slice_get, ◌⊎◌, inl, inr, refl, sym, ◌∙◌, ap, subst, arith}
+use Rattle.std.proofs.Common.{◌≡◌, ℕ, zero, suc, ◌<◌, ◌≤◌, List, [], ◌∷◌, length, take, Option, Some, None, Result, Ok, Err, IfOk, slice_get, ◌⊎◌, inl, inr, refl, sym, ◌∙◌, ap, subst, arith}
 use Rattle.evo_resolved.specs.declared.resolved_type.RType.{RType}
 use Rattle.evo_resolved.specs.declared.resolved_type.RType.TheVariants as ty
 use Rattle.evo_resolved.specs.declared.declaration.RRequirement.{RRequirement}
@@ -19,6 +19,7 @@ in_range written nodes reps solved = record {
   size = solved.size;
   grown = solved.grown;
   inside = λ i less. go i (at_place nodes i less);
+  linked = solved.linked;
 }
   where
     at_place : (xs : List Node) (i : ℕ) → i < length xs → (x : Node) × (slice_get xs i ≡ Some x)

@@ -1,5 +1,5 @@
 -- Which paths lead to which class: a path leads to one at most, equal paths to the same, and paths that lead to one class are equal.
-use Rattle.std.proofs.Common.{◌≡◌, ℕ, zero, suc, ◌+◌, ◌<◌, List, [], ◌∷◌, ◌++◌, length, Some, slice_get, refl, sym, ◌∙◌, ap, subst, arith, append_assoc}
+use Rattle.std.proofs.Common.{◌≡◌, ℕ, zero, suc, ◌<◌, List, [], ◌∷◌, ◌++◌, length, Some, slice_get, refl, sym, ◌∙◌, subst, arith, append_assoc}
 use Rattle.std.proofs.lemmas.List.{append-nil}
 use Rattle.evo_resolved.specs.declared.resolved_type.RType.{RType}
 use Rattle.evo_resolved.specs.declared.declaration.RRequirement.{RRequirement}
@@ -9,7 +9,7 @@ use Rattle.evo_solve.specs.declared.universe.Node.{Node}
 use Rattle.evo_solve.specs.declared.universe.Origin.{Origin}
 use Rattle.evo_solve.specs.declared.universe.Origin.TheVariants.{Root, Taken}
 use Rattle.evo_solve.specs.Equal.{Equal, held, same, turned, joined, member, taken, behind, path_of}
-use Rattle.evo_solve.specs.Universe.{GrownBy, Grown, HasPath, Linked, LinkedBy, RootAt, Child, Walks, Has, IsSolved, rep}
+use Rattle.evo_solve.specs.Universe.{Grown, HasPath, Linked, LinkedBy, RootAt, Child, Walks, Has, IsSolved, rep}
 use Rattle.evo_solve.proofs.Lists.{below_length}
 use Rattle.evo_solve.proofs.Growing.{path_eq}
 use Rattle.evo_solve.proofs.Closing.{rooted, branched, same_node}
@@ -30,7 +30,7 @@ module _ (nodes : List Node) (reps : List ℕ) where
   has_back p n e h = let b = walks_back p.names h.0 n e h.2 in (b.0, (h.0, h.1, b.1), b.2)
 
 module _ (nodes : List Node) (reps : List ℕ) (size : length reps ≡ length nodes) (grown : Grown nodes) (linked : (i j : ℕ) (x y : Node) → slice_get nodes i ≡ Some x → slice_get nodes j ≡ Some y → Linked reps x y → rep reps i ≡ rep reps j) where
-  root_one : (t : RType) (c d : ℕ) → RootAt nodes reps t c → RootAt nodes reps t d → c ≡ d
+  pub root_one : (t : RType) (c d : ℕ) → RootAt nodes reps t c → RootAt nodes reps t d → c ≡ d
   root_one t c d a b =
       let l : Linked reps a.1 b.1 = subst (λ o. LinkedBy reps a.1 b.1 o b.1.origin) (sym a.3) (subst (λ o. LinkedBy reps a.1 b.1 Root o) (sym b.3) (a.4 ∙ sym b.4)) in
       sym a.5 ∙ linked a.0 b.0 a.1 b.1 a.2 b.2 l ∙ b.5

@@ -1,5 +1,5 @@
 -- What the two calls answer. Want of memory alone is free.
-use Rattle.std.specs.Prelude.{◌≡◌, ℕ, ◌<◌, ◌≤◌, List, length, Result, Ok, Err}
+use Rattle.std.specs.Prelude.{◌<◌, ◌≤◌, List, length, Result, Ok, Err}
 use Rattle.evo_resolved.specs.declared.resolved_type.RType.{RType}
 use Rattle.evo_resolved.specs.declared.declaration.RRequirement.{RRequirement}
 use Rattle.evo_resolved.specs.declared.path.ConfPath.{ConfPath}

@@ -3,5 +3,7 @@ pub mod Canonical
 pub mod Words
 pub mod Ways
 pub mod Universe
+pub mod Search
+pub mod Found
 pub mod Answers
 pub mod Laws

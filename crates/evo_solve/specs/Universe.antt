@@ -1,5 +1,5 @@
 -- The nodes of a solver, in classes by a representative each, and which paths lead to which class.
-use Rattle.std.specs.Prelude.{◌≡◌, ℕ, suc, ◌+◌, ◌<◌, ◌≤◌, List, [], ◌∷◌, ◌++◌, length, get_or, Option, Some, None, slice_get, Bool, true, false, cond, ◌==◌, ◌⊎◌}
+use Rattle.std.specs.Prelude.{◌≡◌, ℕ, ◌+◌, ◌<◌, List, [], ◌∷◌, ◌++◌, length, get_or, Option, Some, None, slice_get, Bool, true, cond, ◌==◌, ◌⊎◌}
 use Rattle.std.specs.Option.{option_map}
 use Rattle.std.specs.Ordering.{is_lt}
 use Rattle.evo_base.specs.declared.place.Place.{Place}
@@ -15,7 +15,7 @@ use Rattle.evo_solve.specs.declared.universe.Origin.{Origin}
 use Rattle.evo_solve.specs.declared.universe.Origin.TheVariants.{Root, Taken}
 use Rattle.evo_solve.specs.declared.universe.Sides.{Sides}
 use Rattle.evo_solve.specs.declared.classes.Couple.{Couple}
-use Rattle.evo_solve.specs.Equal.{Equal, alone, parameter, path_of, taken}
+use Rattle.evo_solve.specs.Equal.{Equal, parameter, path_of, taken}
 use Rattle.evo_solve.specs.Canonical.{IsNamed, NotAfter, path_order}
 
 -- ---- nodes
@@ -93,6 +93,11 @@ total (x ∷ xs) = x + total xs
 abbrev pub RootAt : List Node → List ℕ → RType → ℕ → Type 0
 RootAt nodes reps t c = (i : ℕ) × (x : Node) × (slice_get nodes i ≡ Some x) × (x.origin ≡ Root) × (x.path.first ≡ t) × (rep reps i ≡ c)
 
+-- it is a name behind a node of the class
+abbrev pub TakenFrom : List ℕ → ℕ → Text → Origin → Type 0
+TakenFrom reps c n Root = ⊥
+TakenFrom reps c n (Taken p m) = (p < length reps) × (rep reps p ≡ c) × (m ≡ n)
+
 -- behind a class a name leads to a class
 abbrev pub Child : List Node → List ℕ → ℕ → Text → ℕ → Type 0
 Child nodes reps c n d = (i : ℕ) × (x : Node) × (p : ℕ) × (slice_get nodes i ≡ Some x) × (x.origin ≡ Taken p n) × (rep reps p ≡ c) × (rep reps i ≡ d)
@@ -158,6 +163,7 @@ pub record InRange (nodes : List Node) (reps : List ℕ) : Type 0 where
   pub size : length reps ≡ length nodes
   pub grown : Grown nodes
   pub inside : (i : ℕ) → i < length nodes → rep reps i < length nodes
+  pub linked : (i j : ℕ) (x y : Node) → slice_get nodes i ≡ Some x → slice_get nodes j ≡ Some y → Linked reps x y → rep reps i ≡ rep reps j
 
 -- one path is there where another was, and does not come after it
 abbrev pub Improves : Option Path → Path → Type 0

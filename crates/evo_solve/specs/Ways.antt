@@ -2,7 +2,6 @@
 use Rattle.std.specs.Prelude.{◌≡◌, ℕ, ◌+◌, ◌<◌, List, [], ◌∷◌, length, Option, Some, None, slice_get, ◌⊎◌}
 use Rattle.evo_base.specs.declared.key.Key.{Key}
 use Rattle.evo_resolved.specs.declared.resolved_type.RType.{RType}
-use Rattle.evo_resolved.specs.declared.resolved_type.RType.TheVariants as ty
 use Rattle.evo_resolved.specs.declared.declaration.Signature.{Signature}
 use Rattle.evo_resolved.specs.declared.path.ConfPath.{ConfPath}
 use Rattle.evo_resolved.specs.declared.path.ConfStart.{ConfStart}
@@ -14,7 +13,7 @@ use Rattle.evo_solve.specs.declared.declarations.Subtable.{Subtable}
 use Rattle.evo_solve.specs.declared.declarations.Protocol.{Protocol}
 use Rattle.evo_solve.specs.declared.declarations.DeclaredConformance.{DeclaredConformance}
 use Rattle.evo_solve.specs.declared.declarations.Declarations.{Declarations}
-use Rattle.evo_solve.specs.Equal.{Equal, alone, path_of, taken}
+use Rattle.evo_solve.specs.Equal.{Equal, path_of, taken}
 use Rattle.evo_solve.specs.Words.{table_words}
 
 -- ---- steps
@@ -41,7 +40,7 @@ pub data Leads (protocols : List Protocol) : Path → ℕ → List ℕ → List 
 -- A start has a number: the required conformances come first, in the order of the table words, and then the declared ones in theirs.
 pub data Starts (words : List Word) (declared : List DeclaredConformance) : ℕ → ConfStart → Path → Key → Type 0 where
   by_word : {i : ℕ} (w : Word) → slice_get words i ≡ Some w → Starts words declared i (conf.Required i) (path_of w.subject) w.protocol
-  by_declaration : {n : ℕ} (i : ℕ) (c : DeclaredConformance) → slice_get declared i ≡ Some c → n ≡ length words + i → Starts words declared n (conf.Declared c.key) (alone (ty.Named c.conformer)) c.protocol
+  by_declaration : {n : ℕ} (i : ℕ) (c : DeclaredConformance) → slice_get declared i ≡ Some c → n ≡ length words + i → Starts words declared n (conf.Declared c.key) (path_of c.conformer) c.protocol
 
 -- ---- paths
 
@@ -85,3 +84,11 @@ pub record IsFirstPath (g : Goal) (path : ConfPath) : Type 0 where
   pub route : Route
   pub way : IsWay g route path
   pub first : (other : Route) (p : ConfPath) → IsWay g other p → NotAfter route other
+
+abbrev pub goal_of : Signature → Declarations → RType → Key → Goal
+goal_of s d t p = record { signature = s; declarations = d; type = t; protocol = p }
+
+-- it is the first path, or there is none
+abbrev pub PathOrNone : Goal → Option ConfPath → Type 0
+PathOrNone g (Some path) = IsFirstPath g path
+PathOrNone g None = (route : Route) (path : ConfPath) → IsWay g route path → ⊥

@@ -2,6 +2,7 @@
 //! step is sought by its key.
 
 use evo_base::{Key, List, Name};
+use evo_resolved::RType;
 
 /// A subtable of a conformance: that of an inherited protocol, or of a constraint of an associated type.
 #[derive(Drop)]
@@ -26,7 +27,8 @@ pub struct Protocol {
 #[derive(Drop)]
 pub struct DeclaredConformance {
     pub key: Key,
-    pub conformer: Key,
+    /// The type that conforms, which is a named one.
+    pub conformer: RType,
     /// The protocol, by its key.
     pub protocol: Key,
 }

@@ -9,17 +9,22 @@
 mod best;
 mod classes;
 mod conflict;
+mod conforming;
 mod declarations;
+mod distance;
+mod graph;
 mod laws;
 mod order;
 mod path;
 mod representative;
+mod route;
 mod universe;
 mod words;
 
 pub use conflict::first_conflict;
+pub use conforming::conformance;
 pub use declarations::{Declarations, DeclaredConformance, Protocol, Subtable};
-pub use laws::one_canonical;
+pub use laws::{one_canonical, one_first_path};
 pub use path::{Path, SolveFault, Word};
 pub use representative::canonical;
 pub use words::table_words;

@@ -1,4 +1,4 @@
-use Rattle.std.proofs.Common.{rules, length, sym, ◌∙◌, arith}
+use Rattle.std.proofs.Common.{rules, length}
 use Rattle.evo_solve.specs.Equal.{path_of}
 use Rattle.evo_solve.proofs.Closing.{solve_placing, solve_sound, solve_returns}
 use Rattle.evo_solve.proofs.classes.solve.Goals as goal
