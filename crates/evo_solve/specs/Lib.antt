@@ -6,4 +6,5 @@ pub mod Universe
 pub mod Search
 pub mod Found
 pub mod Answers
+pub mod Stands
 pub mod Laws
