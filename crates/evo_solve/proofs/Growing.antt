@@ -1,6 +1,7 @@
 -- Nodes that grow keep what was said of them.
 use Rattle.std.proofs.Common.{◌≡◌, ℕ, zero, suc, ◌+◌, ◌<◌, List, [], ◌∷◌, ◌++◌, length, get_or, take, Some, slice_get, ◌⊎◌, inl, inr, refl, sym, ◌∙◌, ap, subst, arith, add-one, append_assoc}
 use Rattle.std.proofs.lemmas.Option.{slice_get_read}
+use Rattle.std.proofs.lemmas.List.{append-nil}
 use Rattle.evo_base.specs.declared.place.Place.{Place}
 use Rattle.evo_resolved.specs.declared.resolved_type.RTypeName.{RTypeName}
 use Rattle.evo_resolved.specs.declared.resolved_type.RReference.{RReference}
@@ -14,7 +15,7 @@ use Rattle.evo_solve.specs.declared.universe.Origin.TheVariants.{Root, Taken}
 use Rattle.evo_solve.specs.declared.universe.Sides.{Sides}
 use Rattle.evo_solve.specs.Equal.{path_of, taken, behind}
 use Rattle.evo_solve.specs.Universe.{GrownBy, Grown, HasPath, Added, AddedBehind, Placing}
-use Rattle.evo_solve.proofs.Lists.{at_front, at_end, at_last, take_at}
+use Rattle.evo_solve.proofs.Lists.{at_end, at_front, at_last, at_place, take_at}
 
 pub path_eq : (p q : Path) → p.first ≡ q.first → p.names ≡ q.names → p ≡ q
 path_eq p q h n = λ i. record { first = h i; names = n i }
@@ -45,21 +46,33 @@ pub added_behind : (old new : List Node) (i below : ℕ) (name : Text) (y : Node
 added_behind old new i below name y path copy grown inside is_y is_path is_copy is_new is_i =
     let at = slice_get_read old (length old) below y refl inside is_y in
     let x : Node = record { path = path; origin = Taken below copy } in
+    let last = at_end old x in
     record {
-      made = (y, x, at, is_new, is_path, is_i);
+      parent = y;
+      at = at;
+      more = x ∷ [];
+      is = is_new;
       grown = subst Grown (sym is_new) (grown_more old x grown (y, at, is_path ∙ ap (taken y.path) (sym is_copy), inside));
+      has = (x, cc (last, is_new, is_i), is_path);
     }
+
+pub added_found : (old : List Node) (i below : ℕ) (name : Text) → Grown old → below < length old → ((y : Node) → slice_get old below ≡ Some y → HasPath old i (taken y.path name)) → AddedBehind old old i below name
+added_found old i below name grown inside has =
+    let y = at_place old below inside in
+    record { parent = y.0; at = y.1; more = []; is = sym (append-nil old); grown = grown; has = has y.0 y.1 }
+
+pub added_same : (old : List Node) (i : ℕ) (p : Path) → Grown old → HasPath old i p → Added old old i p
+added_same old i p grown has = record { more = []; is = sym (append-nil old); grown = grown; has = has }
 
 added_more : (old mid new : List Node) (i j : ℕ) (p : Path) (n : Text) → Added old mid i p → AddedBehind mid new j i n → Added old new j (taken p n)
 added_more old mid new i j p n a b =
-    let m = b.made in
-    let e : m.0 ≡ a.has.0 = cc (m.2, a.has.1) in
-    let last = at_end mid m.1 in
+    let at_b = b.at in
+    let e : b.parent ≡ a.has.0 = cc (at_b, a.has.1) in
     record {
-      more = a.more ++ m.1 ∷ [];
-      is = m.3 ∙ ap (λ l. l ++ m.1 ∷ []) a.is ∙ append_assoc old a.more (m.1 ∷ []);
+      more = a.more ++ b.more;
+      is = b.is ∙ ap (λ l. l ++ b.more) a.is ∙ append_assoc old a.more b.more;
       grown = b.grown;
-      has = (m.1, cc (last, m.3, m.5), m.4 ∙ ap (λ q. taken q n) (ap (λ z. z.path) e ∙ a.has.2));
+      has = (b.has.0, b.has.1, b.has.2 ∙ ap (λ q. taken q n) (ap (λ z. z.path) e ∙ a.has.2));
     }
 
 pub added_next : (old mid new : List Node) (i j : ℕ) (p : Path) (names : List Text) (k : ℕ) (n : Text) → Added old mid i (behind p (take k names)) → AddedBehind mid new j i n → k < length names → n ≡ get_or names k n → Added old new j (behind p (take (k + 1) names))

@@ -39,10 +39,14 @@ pub record Added (old new : List Node) (i : ℕ) (p : Path) : Type 0 where
   pub grown : Grown new
   pub has : HasPath new i p
 
--- one more node, which is a name behind an earlier one
+-- the node of this number is a name behind an earlier one
 pub record AddedBehind (old new : List Node) (i below : ℕ) (n : Text) : Type 0 where
-  pub made : (y x : Node) × (slice_get old below ≡ Some y) × (new ≡ old ++ x ∷ []) × (x.path ≡ taken y.path n) × (i ≡ length old)
+  pub parent : Node
+  pub at : slice_get old below ≡ Some parent
+  pub more : List Node
+  pub is : new ≡ old ++ more
   pub grown : Grown new
+  pub has : HasPath new i (taken parent.path n)
 
 -- the sides of each `==` before this number are nodes, and each pair of nodes is the sides of one
 pub record Placing (written : List RRequirement) (nodes : List Node) (pairs : List Sides) (n : ℕ) : Type 0 where

@@ -1,12 +1,16 @@
 //! The paths that requirements and a type name, each with all that it begins with.
 
-ghost use Rattle.std.specs.Prelude.{◌≡◌, ◌<◌, [], IfOk, OnOk, length};
+ghost use Rattle.std.specs.Bool.{OnTrue};
+ghost use Rattle.std.specs.Option.{IfSome};
+ghost use Rattle.std.specs.Prelude.{◌≡◌, ◌<◌, [], IfOk, OnOk, Some, length, slice_get};
 ghost use Rattle.evo_solve.specs.Equal as equal;
-ghost use Rattle.evo_solve.specs.Universe.{Added, AddedBehind, Grown, Placing};
+ghost use Rattle.evo_solve.specs.Universe.{Added, AddedBehind, Grown, HasPath, Placing};
+ghost use Rattle.evo_solve.specs.declared.universe.Node as nodes_type;
+ghost use Rattle.evo_solve.specs.declared.universe.Origin.TheVariants as origin;
 
 use crate::path::Path;
 use evo_base::{List, Name};
-use evo_resolved::{Copied, RRequirement, RType};
+use evo_resolved::{Copied, RRequirement, RType, same_name, same_type};
 use std::alloc::{AllocError, Global};
 
 /// How a node was made.
@@ -45,10 +49,54 @@ pub fn with_name(alloc: Global, path: &Path, name: &Name) -> Result<Path, AllocE
     })
 }
 
+fn is_root(x: &Node, first: &RType) -> bool
+    ensures { OnTrue result ((x.now.origin ≡ origin.Root) × (x.now.path.first ≡ first.now)) }
+{
+    matches!(x.origin, Origin::Root) && same_type(&x.path.first, first)
+}
+
+// A node that is this type alone.
+fn find_root(nodes: &[Node], first: &RType) -> Option<usize>
+    requires { Grown nodes.now }
+    ensures { IfSome result (λ i. HasPath nodes.now i (equal.alone first.now)) }
+{
+    for (i, x) in nodes.iter().enumerate() {
+        if is_root(x, first) {
+            return Some(i);
+        }
+    }
+    None
+}
+
+fn is_behind(x: &Node, below: usize, name: &Name) -> bool
+    ensures { OnTrue result (x.now.origin ≡ origin.Taken below name.now) }
+{
+    match &x.origin {
+        Origin::Root => false,
+        Origin::Taken(own, last) => *own == below && same_name(last, name),
+    }
+}
+
+// A node that is this name behind another node.
+fn find_behind(nodes: &[Node], below: usize, name: &Name) -> Option<usize>
+    requires { Grown nodes.now }
+    ensures { IfSome result (λ i. (y : nodes_type.Node) → slice_get nodes.now below ≡ Some y → HasPath nodes.now i (equal.taken y.path name.now)) }
+{
+    for (i, x) in nodes.iter().enumerate() {
+        if is_behind(x, below, name) {
+            return Some(i);
+        }
+    }
+    None
+}
+
 fn add_root(alloc: Global, nodes: &mut Vec<Node>, first: RType) -> Result<usize, AllocError>
     requires { Grown nodes.old.items }
     ensures { IfOk result (λ n. Added nodes.old.items nodes.new.items n (equal.alone first)) }
 {
+    if let Some(found) = find_root(nodes, &first) {
+        return Ok(found);
+    }
     let number = nodes.len();
     nodes.push(Node {
         path: Path {
@@ -70,6 +118,9 @@ fn add_name(
     requires below { below < length nodes.old.items }
     ensures { IfOk result (λ n. AddedBehind nodes.old.items nodes.new.items n below name.now) }
 {
+    if let Some(found) = find_behind(nodes, below, name) {
+        return Ok(found);
+    }
     let path = with_name(alloc, &nodes[below].path, name)?;
     let name = name.copy(alloc)?;
     let number = nodes.len();
