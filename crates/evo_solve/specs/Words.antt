@@ -1,5 +1,5 @@
 -- The table words of a signature: one for each of its different conformance requirements, and before them one for `Self` of a protocol.
-use Rattle.std.specs.Prelude.{ℕ, List, [], ◌∷◌, ◌++◌, Option, Some, None}
+use Rattle.std.specs.Prelude.{ℕ, List, [], ◌∷◌, filter, Option, Some, None, Bool, true, false}
 use Rattle.std.specs.Ordering.{nat_cmp, ordering_then}
 use Rattle.std.specs.declared.cmp.Ordering.{Ordering}
 use Rattle.std.specs.declared.cmp.Ordering.TheVariants.{Less, Equal, Greater}
@@ -58,9 +58,19 @@ put_all [] ws = ws
 put_all (requirement.Conforms t p ∷ rs) ws = put_all rs (put (word t.ty p.key) ws)
 put_all (requirement.Same l p r ∷ rs) ws = put_all rs ws
 
-abbrev pub self_word : Option Key → List Word
-self_word None = []
-self_word (Some p) = word (ty.Param 0) p ∷ []
+abbrev pub is_unequal : Ordering → Bool
+is_unequal Less = true
+is_unequal Equal = false
+is_unequal Greater = true
+
+-- whether two words differ
+abbrev pub differs : Word → Word → Bool
+differs w v = is_unequal (word_order w v)
+
+-- that of `Self` stands first, and nowhere else
+abbrev pub with_self : Option Key → List Word → List Word
+with_self None ws = ws
+with_self (Some p) ws = word (ty.Param 0) p ∷ filter (differs (word (ty.Param 0) p)) ws
 
 abbrev pub table_words : Signature → List Word
-table_words s = self_word s.protocol ++ put_all s.requirements []
+table_words s = with_self s.protocol (put_all s.requirements [])

@@ -1,6 +1,6 @@
 //! The table words of a signature.
 
-ghost use Rattle.std.specs.Prelude.{◌≡◌, ◌≤◌, ◌++◌, ◌∷◌, [], IfOk, MatchOption, OnOk, drop, length, take};
+ghost use Rattle.std.specs.Prelude.{◌≡◌, ◌≤◌, ◌++◌, ◌∷◌, [], IfOk, MatchOption, OnOk, drop, filter, length, take};
 ghost use Rattle.evo_solve.specs.Words as words;
 
 use crate::order::{compare_names, number};
@@ -117,17 +117,36 @@ fn sorted(alloc: Global, requirements: &[RRequirement]) -> Result<Vec<Word>, All
     Ok(words)
 }
 
-/// The table words: that of `Self` first where the signature stands in a protocol, then one for each different
-/// conformance requirement, by parameter, associated names and protocol.
+fn differ(one: &Word, other: &Word) -> bool
+    ensures { result ≡ words.differs one.now other.now }
+{
+    compare_words(one, other) != Ordering::Equal
+}
+
+// A word, and behind it those of others that differ from it.
+fn led(alloc: Global, first: Word, others: Vec<Word>) -> Result<Vec<Word>, AllocError>
+    ensures { IfOk result (λ ws. ws.items ≡ first ∷ filter (words.differs first) others.items) }
+{
+    let mut rest = Vec::new(alloc);
+    for word in others {
+        if differ(&first, &word) {
+            rest.push(word)?;
+        }
+    }
+    rest.insert(0, first)?;
+    Ok(rest)
+}
+
+/// The table words: that of `Self` first where the signature stands in a protocol, then one for each other conformance
+/// requirement, by parameter, associated names and protocol.
 pub fn table_words(alloc: Global, signature: &Signature) -> Result<Vec<Word>, AllocError>
     ensures { IfOk result (λ ws. ws.items ≡ words.table_words signature.now) }
 {
-    let mut words = sorted(alloc, signature.requirements.as_slice())?;
+    let words = sorted(alloc, signature.requirements.as_slice())?;
     let Some(key) = &signature.protocol else {
         return Ok(words);
     };
     let protocol = key.copy(alloc)?;
     let subject = RType::Param(0);
-    words.insert(0, Word { subject, protocol })?;
-    Ok(words)
+    led(alloc, Word { subject, protocol }, words)
 }
