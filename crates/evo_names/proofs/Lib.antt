@@ -11,3 +11,4 @@ mod FaultExamples
 mod BodyExamples
 mod TypingExamples
 pub mod OneDeclared
+mod ResolvedExamples
