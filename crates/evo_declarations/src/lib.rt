@@ -4,6 +4,9 @@
 //! answer exactly the definition's. Trees and resolved types stand below; tables of declarations above.
 #![tactic(auto)]
 
+mod laws;
+mod limits;
 mod listed;
 
+pub use laws::past_limit;
 pub use listed::{Listed, Listing, Within};
