@@ -88,6 +88,14 @@ pub fn do_move(
     Ok(Effect::Goes)
 }
 
+/// Goes to another instruction.
+pub fn do_jump(image: &Image, state: &mut State, target: u64) -> Result<Effect, Halt>
+    ensures { Ran result state.new (act image.now (state_of state.old) (Op.Jump target)) }
+{
+    state.top.at = target;
+    Ok(Effect::Goes)
+}
+
 /// Goes to another instruction where the test is false.
 pub fn do_unless(
     image: &Image,
