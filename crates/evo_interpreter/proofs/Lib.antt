@@ -1,2 +1,5 @@
+pub mod Endings
+pub mod Lines
 pub mod Lists
+pub mod Stores
 pub mod Texts

@@ -3,7 +3,7 @@ use Rattle.std.proofs.Common.{◌≡◌, ℕ, zero, suc, ◌+◌, ◌-◌, ◌�
 use Rattle.std.specs.Prelude.{slice_set, replicate, nat_le}
 use Rattle.std.proofs.lemmas.List.{take-map, drop-map, map-append, length-map}
 use Rattle.evo_execution.specs.declared.end.MachineFault.TheVariants as fault
-use Rattle.evo_execution.specs.Words.{Word, Answer, Got, provided}
+use Rattle.evo_execution.specs.Words.{Word, Got, provided, pack, unpack}
 use Rattle.evo_execution.specs.Execution.{words_at}
 use Rattle.evo_interpreter.specs.Words.{put_at}
 
@@ -30,3 +30,7 @@ words_at-inside f ws xs at n same h =
     let inside : words_at ws at n ≡ Got (take n (drop at ws)) = ap (λ b. provided b fault.Range (take n (drop at ws))) h in
     let count : n ≡ at + n - at = omega arith in
     inside ∙ ap (λ t. Got t) (ap (λ k. take k (drop at ws)) count ∙ (ap (λ t. take (at + n - at) (drop at t)) same ∙ (ap (take (at + n - at)) (drop-map f at xs) ∙ take-map f (at + n - at) (drop at xs))))
+
+pub unpack-pack : (ws : List Word) → unpack (pack ws) ≡ ws
+unpack-pack [] = refl
+unpack-pack (w ∷ ws) = ap (λ (t : List Word). w ∷ t) (unpack-pack ws)

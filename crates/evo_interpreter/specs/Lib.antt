@@ -1,4 +1,5 @@
 pub mod Words
 pub mod Integers
+pub mod Lines
 pub mod Frames
 pub mod States

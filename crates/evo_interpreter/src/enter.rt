@@ -2,14 +2,14 @@
 
 ghost use Rattle.std.specs.Prelude.{◌≡◌, ◌+◌, ◌<◌, ◌^◌, ◌∷◌, None, MatchResult};
 ghost use Rattle.evo_code.specs.declared.instr.Instr.TheVariants as Op;
-ghost use Rattle.evo_execution.specs.Execution.{argument_words, arguments_words, words_from, enter, enter_function, act, frame_of, next, object_at, receiver, Goes};
-ghost use Rattle.evo_execution.specs.Tables.{function_number, target_named, code_at, method_of, super_method_of, class_named};
-ghost use Rattle.evo_execution.specs.Words.{Got, Stops};
+ghost use Rattle.evo_execution.specs.Execution.{argument_words, arguments_words, words_from, passed, enter, enter_function, act, frame_of, next, object_at, receiver, Goes};
+ghost use Rattle.evo_execution.specs.Tables.{function_number, target_named, code_at, entry_of, method_of, super_method_of, class_named};
+ghost use Rattle.evo_execution.specs.Words.{and_then, Got, Stops};
 ghost use Rattle.evo_interpreter.specs.Integers.{answer_of};
 ghost use Rattle.evo_interpreter.specs.States.{state_of, object_of, Answers, Ran, Adds};
 
 use crate::halt::{Effect, Halt};
-use crate::operands::{address, read, reference, room};
+use crate::operands::{address, read, reference, room, table};
 use crate::state::{Frame, Object, State};
 use crate::text::Text;
 use crate::word::Word;
@@ -112,28 +112,40 @@ fn push_frame(
     Ok(Effect::Goes)
 }
 
-// Enters this function, behind whose parameters so many arguments are counted.
+// How many arguments a table that is passed is.
+fn passed(first: &Option<Text>) -> u64
+    ensures { result ≡ passed first.now }
+{
+    match first {
+        Some(_) => 1,
+        None => 0,
+    }
+}
+
+// Enters this function with a table, where one is passed, and arguments.
 fn enter_function(
     alloc: Global,
     image: &Image,
     state: &mut State,
     number: u64,
     function: &Function,
+    first: Option<Text>,
     args: &[Arg],
     to: &Operand,
     size: &Layout,
 ) -> Result<Effect, Halt>
     requires { state.old.top.at + 1 < 2 ^ 64 }
-    ensures { Ran result state.new (enter_function image.now (state_of state.old) number function.now None args.now to.now size.now) }
+    ensures { Ran result state.new (enter_function image.now (state_of state.old) number function.now first args.now to.now size.now) }
 {
-    if args.len() as u64 != function.params {
+    if passed(&first) + args.len() as u64 != function.params {
         return Err(Halt::Stop(Stop::Fault(MachineFault::Size)));
     }
     let mut words = Words::new(alloc);
-    arguments(
+    words_from(
         alloc,
         image,
         state,
+        first,
         args,
         function.slots.as_slice(),
         &mut words,
@@ -155,17 +167,18 @@ fn enter(
     image: &Image,
     state: &mut State,
     number: u64,
+    first: Option<Text>,
     args: &[Arg],
     to: &Operand,
     size: &Layout,
 ) -> Result<Effect, Halt>
     requires { state.old.top.at + 1 < 2 ^ 64 }
-    ensures { Ran result state.new (enter image.now (state_of state.old) number None args.now to.now size.now) }
+    ensures { Ran result state.new (enter image.now (state_of state.old) number first args.now to.now size.now) }
 {
     let Some(function) = image.functions.as_slice().get(number as usize) else {
         return Err(Halt::Stop(Stop::Fault(MachineFault::Entry)));
     };
-    enter_function(alloc, image, state, number, function, args, to, size)
+    enter_function(alloc, image, state, number, function, first, args, to, size)
 }
 
 // The number of the function with this symbol.
@@ -191,7 +204,7 @@ pub fn do_call(
     let Some(number) = function_number(image, function) else {
         return Err(Halt::Stop(Stop::Fault(MachineFault::Entry)));
     };
-    enter(alloc, image, state, number, args.as_slice(), to, size)
+    enter(alloc, image, state, number, None, args.as_slice(), to, size)
 }
 
 // The function that a class has for a method.
@@ -245,7 +258,7 @@ pub fn do_super(
     ensures { Ran result state.new (act image.now (state_of state.old) (Op.Super class.now method.now args.now to.now size.now)) }
 {
     let number = super_method_of(image, class, method)?;
-    enter(alloc, image, state, number, args.as_slice(), to, size)
+    enter(alloc, image, state, number, None, args.as_slice(), to, size)
 }
 
 // The object of this number.
@@ -287,5 +300,44 @@ pub fn do_dispatch(
 {
     let object = receiver(image, state, args.as_slice())?;
     let number = method_of(image, object.class.name(), method)?;
-    enter(alloc, image, state, number, args.as_slice(), to, size)
+    enter(alloc, image, state, number, None, args.as_slice(), to, size)
+}
+
+// The function to which the entry that a witness table has under a name leads.
+fn witness_of(image: &Image, conformance: &Symbol, name: &Symbol) -> Result<u64, Stop>
+    ensures { answer_of result ≡ and_then (entry_of image.now conformance.now name.now) code_at }
+{
+    let Some(table) = item_named(&image.conformances, conformance.as_slice()) else {
+        return Err(Stop::Fault(MachineFault::Entry));
+    };
+    code_named(&table.entries, name)
+}
+
+/// Enters the function that a witness table has for a requirement, with the table before the arguments.
+pub fn do_witness(
+    alloc: Global,
+    image: &Image,
+    state: &mut State,
+    table: &Operand,
+    requirement: &Symbol,
+    args: &List<Arg>,
+    to: &Operand,
+    size: &Layout,
+) -> Result<Effect, Halt>
+    requires { state.old.top.at + 1 < 2 ^ 64 }
+    ensures { Ran result state.new (act image.now (state_of state.old) (Op.Witness table.now requirement.now args.now to.now size.now)) }
+{
+    let conformance = crate::operands::table(image, state, table)?;
+    let number = witness_of(image, conformance.name(), requirement)?;
+    let first = Some(conformance.copy()?);
+    enter(
+        alloc,
+        image,
+        state,
+        number,
+        first,
+        args.as_slice(),
+        to,
+        size,
+    )
 }

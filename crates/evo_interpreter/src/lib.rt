@@ -1,8 +1,9 @@
 //! Parts of the machine that does the runs of images, as `evo_execution` defines them.
 //!
 //! `words` and `state` hold words, frames and objects; `specs/States` says which state of the definition they are.
-//! `operands` reads and puts words, and `plain`, `objects`, `strings`, `tables`, `enter` and `calls` have a function for each kind of
-//! instruction that is done so far, whose clause is the definition's line. Images and the definition stand below; nothing stands above yet.
+//! `operands` reads and puts words, and `plain`, `objects`, `strings`, `print`, `tables`, `enter` and `calls` have a function for each
+//! instruction, whose clause is the definition's line; `do_step` does the one at which a run stands. Images and the definition stand below,
+//! whole runs above in `evo_runs`.
 #![tactic(auto)]
 
 mod calls;
@@ -12,9 +13,19 @@ mod integers;
 mod objects;
 mod operands;
 mod plain;
+mod print;
 mod state;
+mod step;
 mod strings;
 mod tables;
 mod text;
 mod word;
 mod words;
+
+pub use halt::Effect;
+pub use operands::room;
+pub use state::{Frame, Frames, Object, State};
+pub use step::do_step;
+pub use text::Text;
+pub use word::Word;
+pub use words::Words;

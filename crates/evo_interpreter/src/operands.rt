@@ -3,13 +3,14 @@
 ghost use Rattle.std.specs.Prelude.{◌≡◌, map, min, sum, take, MatchResult};
 ghost use Rattle.evo_code.specs.Layouts.{value, most_words};
 ghost use Rattle.evo_execution.specs.Words.{Got, Stops};
-ghost use Rattle.evo_execution.specs.Execution.{address, read, read_word, integer, truth, text, table, reference, put, put_word};
+ghost use Rattle.evo_execution.specs.Execution.{address, read, read_word, integer, truth, text, table, reference, boxed, put, put_word};
 ghost use Rattle.evo_interpreter.specs.Integers.{answer_of};
 ghost use Rattle.evo_interpreter.specs.States.{state_of, Answers};
 ghost use Rattle.evo_interpreter.specs.Words.{word_of};
 
 use crate::halt::Halt;
 use crate::state::State;
+use crate::text::Text;
 use crate::word::Word;
 use crate::words::Words;
 use evo_base::Name;
@@ -113,11 +114,11 @@ pub fn text<'a>(image: &Image, state: &'a State, place: &Operand) -> Result<&'a 
 }
 
 /// The conformance whose table stands at a place.
-pub fn table<'a>(image: &Image, state: &'a State, place: &Operand) -> Result<&'a Name, Stop>
+pub fn table<'a>(image: &Image, state: &'a State, place: &Operand) -> Result<&'a Text, Stop>
     ensures { MatchResult result (λ t. table image.now (state_of state.now) place.now ≡ Got t.now) (λ e. table image.now (state_of state.now) place.now ≡ Stops e) }
 {
     match word(image, state, place)? {
-        Word::Table(conformance) => Ok(conformance.name()),
+        Word::Table(conformance) => Ok(conformance),
         _ => Err(Stop::Fault(MachineFault::Word)),
     }
 }
@@ -150,5 +151,15 @@ pub fn put_all(image: &Image, state: &mut State, to: &Operand, words: Words) -> 
         Ok(())
     } else {
         Err(Stop::Fault(MachineFault::Range))
+    }
+}
+
+/// The words of the box at a place.
+pub fn boxed<'a>(image: &Image, state: &'a State, place: &Operand) -> Result<&'a [Word], Stop>
+    ensures { MatchResult result (λ ws. boxed image.now (state_of state.now) place.now ≡ Got (map word_of ws.now)) (λ e. boxed image.now (state_of state.now) place.now ≡ Stops e) }
+{
+    match word(image, state, place)? {
+        Word::Boxed(words) => Ok(words.as_slice()),
+        _ => Err(Stop::Fault(MachineFault::Word)),
     }
 }

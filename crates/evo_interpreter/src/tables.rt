@@ -57,7 +57,7 @@ pub fn do_sub(
     requires { state.old.top.at + 1 < 2 ^ 64 }
     ensures { Ran result state.new (act image.now (state_of state.old) (Op.Sub to.now from.now name.now)) }
 {
-    let conformance = subtable_of(image, table(image, state, from)?, name)?;
+    let conformance = subtable_of(image, table(image, state, from)?.name(), name)?;
     let conformance = Text::new(alloc, conformance.copy(alloc)?)?;
     do_put(image, state, to, Word::Table(conformance))
 }

@@ -1,4 +1,4 @@
-use Rattle.std.proofs.Common.{◌≡◌, ℕ, List, encode_utf8_all, ap, ◌∙◌}
+use Rattle.std.proofs.Common.{ℕ, List, encode_utf8_all, ap, ◌∙◌}
 use Rattle.std.specs.Prelude.{chars}
 use Rattle.unicode_normalization.specs.Forms.{nfd}
 use Rattle.evo_interpreter.proofs.Texts.{texts-agree}

@@ -2,7 +2,7 @@ use Rattle.std.proofs.Common.{◌≡◌, ℕ, List, Option, Some, sym, ap, subst
 use Rattle.std.specs.Prelude.{MatchResult}
 use Rattle.evo_code.specs.declared.image.ConfTable.{ConfTable}
 use Rattle.evo_execution.specs.declared.end.MachineFault.TheVariants as fault
-use Rattle.evo_execution.specs.Tables.{conformance_named, entry_of, subtable_at, target_named}
+use Rattle.evo_execution.specs.Tables.{conformance_named, subtable_at, target_named}
 use Rattle.evo_execution.specs.Words.{Answer, and_then, some_or, Got, Stops}
 use Rattle.evo_interpreter.proofs.tables.subtable_of.Goals as goal
 

@@ -1,5 +1,5 @@
-use Rattle.std.proofs.Common.{◌≡◌, [], ◌∷◌, map, ap, ◌∙◌}
-use Rattle.evo_interpreter.specs.Words.{word_of, put_at}
+use Rattle.std.proofs.Common.{[], ◌∷◌, map, ap, ◌∙◌}
+use Rattle.evo_interpreter.specs.Words.{word_of}
 use Rattle.evo_interpreter.proofs.Lists.{map-put}
 use Rattle.evo_interpreter.proofs.words.Words.set.Goals as goal
 

@@ -1,8 +1,3 @@
-use Rattle.std.proofs.Common.{◌≡◌, ◌+◌, ◌-◌, List, take, drop, map, sym, ap, ◌∙◌, arith}
-use Rattle.std.proofs.lemmas.List.{take-map, drop-map}
-use Rattle.evo_execution.specs.Words.{Got}
-use Rattle.evo_execution.specs.Words as defined
-use Rattle.evo_execution.specs.Execution.{words_at}
 use Rattle.evo_interpreter.specs.Words.{word_of}
 use Rattle.evo_interpreter.proofs.Lists.{words_at-inside}
 use Rattle.evo_interpreter.proofs.words.Words.slice.Goals as goal
