@@ -19,7 +19,7 @@ mod symbols;
 pub use image::{ClassTable, ConfTable, Entry, Image, SizeWords, Sizes, Target};
 pub use instr::{Arg, Instr, MathOperator, OrderOperator, TrapNumber};
 pub use layout::{Layout, Operand, Symbol};
-pub use load_check::loads;
+pub use load_check::{begins_well, is_low, is_timed, jumps_well, loads, may_call};
 pub use named::{Named, is_named, item_named, number_named};
 pub use object::{
     ClassRecord, CodeEntry, ConfRecord, Function, Import, ImportKind, Level, Object,

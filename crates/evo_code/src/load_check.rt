@@ -26,19 +26,22 @@ fn rank(level: Level) -> u8
     }
 }
 
-fn is_timed(level: Level) -> bool
+/// Whether a function of this level takes ticks.
+pub fn is_timed(level: Level) -> bool
     ensures { result ≡ is_timed level }
 {
     matches!(level, Level::Timed)
 }
 
-fn may_call(level: Level, callee: Level) -> bool
+/// Whether a function of the first level may call one of the second: it is timed, or of a lower level.
+pub fn may_call(level: Level, callee: Level) -> bool
     ensures { result ≡ may_call level callee }
 {
     is_timed(callee) || rank(callee) < rank(level)
 }
 
-fn is_low(level: Level) -> bool
+/// Whether a witness may be of this level.
+pub fn is_low(level: Level) -> bool
     ensures { result ≡ is_low level }
 {
     is_timed(level) || rank(level) <= 2
@@ -54,7 +57,8 @@ fn has_tick(code: &[Instr], at: u64) -> bool
     }
 }
 
-fn jumps_well(code: &[Instr], at: u64, target: u64) -> bool
+/// Whether an instruction at this place may jump to the target: forwards, at most to the end of the code, or to a tick.
+pub fn jumps_well(code: &[Instr], at: u64, target: u64) -> bool
     ensures { result ≡ jumps_well code.now at target }
 {
     (at < target && target <= code.len() as u64) || has_tick(code, target)
@@ -195,7 +199,8 @@ fn check_code(level: Level, code: &[Instr], object: &Object) -> bool
     true
 }
 
-fn begins_well(level: Level, code: &[Instr]) -> bool
+/// Whether the code begins with a tick, where its function is timed.
+pub fn begins_well(level: Level, code: &[Instr]) -> bool
     ensures { result ≡ begins_well level code.now }
 {
     match level {
