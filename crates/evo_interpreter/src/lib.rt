@@ -23,7 +23,8 @@ mod word;
 mod words;
 
 pub use halt::Effect;
-pub use operands::room;
+pub use integers::{computed, ordered};
+pub use operands::{room, room_before};
 pub use state::{Frame, Frames, Object, State};
 pub use step::do_step;
 pub use text::Text;

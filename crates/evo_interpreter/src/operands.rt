@@ -29,8 +29,8 @@ pub fn room(layouts: &[Layout], sizes: &Sizes) -> u64
     words
 }
 
-// The words of the first so many layouts.
-fn room_before(layouts: &[Layout], count: u64, sizes: &Sizes) -> u64
+/// The words of the first so many layouts.
+pub fn room_before(layouts: &[Layout], count: u64, sizes: &Sizes) -> u64
     ensures { result ≡ min most_words (sum (map (value sizes.now) (take count layouts.now))) }
 {
     if count >= layouts.len() as u64 {

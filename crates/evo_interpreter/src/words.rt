@@ -122,6 +122,7 @@ impl Words {
     pub fn set(&mut self, at: u64, word: Word) -> bool
         ensures fits { result ≡ nat_le (at + 1) (length self.old) }
         ensures written { IsTrue result → self.new ≡ written self.old at (word_of word ∷ []) }
+        ensures kept { IsFalse result → self.new ≡ self.old }
     {
         set_word(&mut self.words, at, word)
     }
@@ -145,6 +146,7 @@ fn write_words(words: &mut Vec<Word>, at: u64, mut new: Vec<Word>) -> bool
 fn set_word(words: &mut Vec<Word>, at: u64, word: Word) -> bool
     ensures fits { result ≡ nat_le (at + 1) (length words.old.items) }
     ensures written { IsTrue result → words.new.items ≡ put_at words.old.items at (word ∷ []) }
+    ensures kept { IsFalse result → words.new.items ≡ words.old.items }
 {
     if at >= words.len() as u64 {
         return false;

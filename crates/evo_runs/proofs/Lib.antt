@@ -1,3 +1,5 @@
+pub mod Follow
+pub mod QuickSteps
 pub mod Says
 pub mod Sinks
 pub mod Starts

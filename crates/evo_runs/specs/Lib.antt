@@ -1,2 +1,4 @@
+pub mod Quick
+pub mod Reached
 pub mod Runs
 pub mod Starts

@@ -5,13 +5,17 @@ ghost use Rattle.evo_execution.specs.Execution.{Run, Executes, Reaches};
 ghost use Rattle.evo_execution.specs.Loaded.{IsLoaded};
 ghost use Rattle.evo_interpreter.specs.States.{state_of};
 ghost use Rattle.evo_runs.specs.declared.machine.RunStop.TheVariants.{Memory, Write};
+ghost use Rattle.evo_runs.specs.Quick.{plan_of};
 ghost use Rattle.evo_runs.specs.Runs.{RunsResult, end_of};
 
+use crate::plan::plans;
+use crate::quick::Quick;
 use crate::start::start;
-use evo_base::{Failed, Sink};
+use crate::steps::do_steps;
+use evo_base::{Failed, List, Sink};
 use evo_code::Image;
 use evo_execution::End;
-use evo_interpreter::{Effect, State, do_step};
+use evo_interpreter::{Effect, State};
 use std::alloc::{AllocError, Global};
 use std::marker::Model;
 
@@ -44,6 +48,7 @@ impl From<Failed> for RunStop {
 #[derive(Drop)]
 pub struct Machine {
     image: Image,
+    plans: List<List<Quick>>,
     state: State,
     finished: Option<Result<End, RunStop>>,
 }
@@ -51,6 +56,7 @@ pub struct Machine {
 impl Model for Machine {
     ghost use Rattle.std.specs.Prelude.{◌≡◌, None};
     ghost use Rattle.evo_execution.specs.Loaded.{IsLoaded};
+    ghost use Rattle.evo_runs.specs.Quick.{plan_of};
     ghost use Rattle.evo_runs.specs.Starts.{StartsAt};
     ghost use Rattle.evo_runs.specs.Runs.{MachineState};
     ghost use Rattle.evo_code.specs.contracts.layout.Layout as layout;
@@ -62,7 +68,7 @@ impl Model for Machine {
 
     ghost view = { λ m. record { image = m.image; finished = m.finished } };
 
-    ghost invariant = { λ m. IsLoaded m.image × (m.finished ≡ None → StartsAt m.image m.state) };
+    ghost invariant = { λ m. IsLoaded m.image × (m.plans ≡ plan_of m.image) × (m.finished ≡ None → StartsAt m.image m.state) };
 }
 
 impl Machine {
@@ -73,9 +79,11 @@ impl Machine {
         requires { IsLoaded image }
         ensures { IfOk result (λ m. m ≡ record { image = image; finished = None }) }
     {
+        let plans = plans(alloc, &image)?;
         let state = start(alloc, &image)?;
         Ok(Machine {
             image,
+            plans,
             state,
             finished: None,
         })
@@ -96,7 +104,7 @@ impl Machine {
             return result;
         }
         self.state.ticks = ticks;
-        let result = run_from(alloc, &self.image, &mut self.state, out);
+        let result = run_from(alloc, &self.image, &self.plans, &mut self.state, out);
         self.finished = Some(result);
         result
     }
@@ -116,17 +124,19 @@ impl Machine {
 fn run_from<S: Sink>(
     alloc: Global,
     image: &Image,
+    plans: &List<List<Quick>>,
     state: &mut State,
     out: &mut S,
 ) -> Result<End, RunStop>
-    requires { IsLoaded image.now }
+    requires loads { IsLoaded image.now }
+    requires plans { plans.now ≡ plan_of image.now }
     ensures runs { (run : Run) → Reaches image.now (state_of state.old) run →
         RunsResult run (S.state out.old) (S.state out.new) result }
     ensures failed { result ≡ Err Write → (S.state out.new).failed ≡ true }
     ensures unfailed { (S.state out.new).failed ≡ true → ((S.state out.old).failed ≡ true) ⊎ (result ≡ Err Write) }
 {
     loop {
-        match do_step(alloc, image, state)? {
+        match do_steps(alloc, image, plans, state)? {
             Effect::Goes => {}
             Effect::Writes(line) => out.write(line.as_bytes())?,
             Effect::Ends(end) => return Ok(end),

@@ -5,6 +5,7 @@ use Rattle.evo_execution.specs.Loaded.{IsLoaded}
 use Rattle.evo_execution.proofs.Falls.{measure}
 use Rattle.evo_interpreter.specs.States.{state_of}
 use Rattle.evo_runs.specs.declared.machine.RunStop.{RunStop}
+use Rattle.evo_runs.specs.Quick.{plan_of}
 use Rattle.evo_runs.specs.Runs.{RunsResult}
 use Rattle.evo_runs.proofs.machine.run_from.Given as goal
 
@@ -12,6 +13,7 @@ use Rattle.evo_runs.proofs.machine.run_from.Given as goal
 abbrev pub invariant-loop-line : goal.invariant-loop-line
 invariant-loop-line g l = record {
   loads : IsLoaded l.image;
+  plans : l.plans ≡ plan_of l.image;
   unfailed : (g.S.Sink.state l.out).failed ≡ true → (g.S.Sink.state l.initial.out).failed ≡ true;
   comes : (new : _) (r : Result End RunStop)
       → ((rest : Run) → Reaches l.image (state_of l.state) rest → RunsResult rest (g.S.Sink.state l.out) (g.S.Sink.state new) r)
