@@ -193,7 +193,7 @@ module _ (env : Env) (known : Known env) where
   named_from (Named.case f) t p as' b knows (q, h, e) = let k = using_from nothing f t p (given as') q knows h in subst (IsNamed (Named.case f) t p as') e (named_case k.0, put _ _ (x.outs-Case q) (TypedLevel.case k.1))
   named_from (Named.free f) t p as' b knows (q, h, e) = let k = using_from nothing f t p (given as') q knows h in subst (IsNamed (Named.free f) t p as') e (named_free k.0, put _ _ (x.outs-Call q) (TypedLevel.call k.1))
   named_from (Named.new f n) t p as' b knows (q, h, e) = let k = using_from nothing f (Some n) p (given as') q knows h in subst (IsNamed (Named.new f n) t p as') e (named_new k.0, put _ _ (x.outs-New q) (TypedLevel.new k.1))
-  named_from (Named.type n) t p as' b knows e = subst (IsNamed (Named.type n) t p as') e (named_type, tt)
+  named_from (Named.type n available) t p as' b knows (u, is, e) = subst (IsNamed (Named.type n available) t p as') e (named_type is, tt)
 
   -- ---- members
 

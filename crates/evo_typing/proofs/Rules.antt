@@ -141,7 +141,7 @@ module _ {I : Type 0} (N : I → SourceFault → Type 0) (P : Option RType → E
   named_right (Named.case f) t p as' r = follows_right N E (using_right f t p (given as') r) (λ a h. gives_right N E _)
   named_right (Named.free f) t p as' r = follows_right N E (using_right f t p (given as') r) (λ a h. gives_right N E _)
   named_right (Named.new f n) t p as' r = follows_right N E (using_right f (Some n) p (given as') r) (λ a h. gives_right N E _)
-  named_right (Named.type n) t p as' r = gives_right N E _
+  named_right (Named.type n available) t p as' r = follows_right N E (ensures_right N E _ _) (λ u h. gives_right N E _)
 
   -- ---- members
 

@@ -115,7 +115,7 @@ module _ (env : Env) (known : Known env) where
   named_to knows (named_case {u} {bs} r) h = ((u, bs), using_to knows.0 r (form.in_case h), refl)
   named_to knows (named_free {u} {bs} r) h = ((u, bs), using_to knows.0 r (form.in_call h), refl)
   named_to knows (named_new {u} {bs} r) h = ((u, bs), using_to knows.0 r (form.in_new h), refl)
-  named_to knows named_type h = refl
+  named_to knows (named_type is) h = (tt, is, refl)
 
   -- ---- members
 

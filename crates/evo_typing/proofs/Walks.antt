@@ -133,7 +133,7 @@ module _ (env : Env) (o : Oracle) where
       let ss = slots f as' in
       let rest : (RType → Place) → List RType → List RExpr → Result rule.Used SourceFault =
       λ place ts bs. bind ((each (rule.path (a_part env) (λ a. a) env f.shape ts place) f.shape.required).walk o) (λ qs. bind ((each (rule.equal (a_part env) (λ a. a) env f.shape ts place) f.shape.equal).walk o)
-      (λ es. bind (ensure (fault p Unavailable) (env.names.available f.key))
+      (λ es. bind (ensure (fault p Unavailable) f.available)
       (λ u. bind ((rule.standing (a_part env) (λ a. a) env f.shape ts p f.shape.result).walk o) (λ v. Ok (use_of f t p ts qs v, bs))))) in
       let go : List (Slot (Expr × Walk)) → Result rule.Used SourceFault =
       λ ss. bind ((each (rule.chooser looked W env) ss).walk o) (λ own. bind (need (fault p Ambiguous) (use_types f own)) (λ ts. bind ((each (rule.filled looked W env f.shape ts p) (paired ss own)).walk o) (rest (λ r. chooser_place (λ a. place_of a.0) ss r p) ts))) in
@@ -151,7 +151,7 @@ module _ (env : Env) (o : Oracle) where
   named_same (Named.case f) t p as' = bind_same (given_using f t p as') (λ a. refl)
   named_same (Named.free f) t p as' = bind_same (given_using f t p as') (λ a. refl)
   named_same (Named.new f n) t p as' = bind_same (given_using f (Some n) p as') (λ a. refl)
-  named_same (Named.type n) t p as' = refl
+  named_same (Named.type n available) t p as' = refl
 
   -- ---- members
 

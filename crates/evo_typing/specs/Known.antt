@@ -39,7 +39,7 @@ abbrev pub KnowsNamed : Env → Named → Type 0
 KnowsNamed env (Named.case f) = Knows env nothing f
 KnowsNamed env (Named.free f) = Knows env nothing f
 KnowsNamed env (Named.new f t) = Knows env nothing f
-KnowsNamed env (Named.type t) = Unit {0}
+KnowsNamed env (Named.type t available) = Unit {0}
 
 abbrev pub KnowsMeaning : Env → Meaning → Type 0
 KnowsMeaning env (Meaning.local l) = slice_get env.scope.locals l.number ≡ Some l.type

@@ -116,7 +116,7 @@ mutual
     named_case : {f : Found} {t : Option RTypeName} {p : Place} {as' : Option Arguments} {u : RUse} {bs : List RExpr} → ResolvesUse env f t p (given as') u bs → ResolvesNamed env (Named.case f) t p as' (value (x.Case (u, bs)))
     named_free : {f : Found} {t : Option RTypeName} {p : Place} {as' : Option Arguments} {u : RUse} {bs : List RExpr} → ResolvesUse env f t p (given as') u bs → ResolvesNamed env (Named.free f) t p as' (value (x.Call (u, bs)))
     named_new : {f : Found} {n : RTypeName} {t : Option RTypeName} {p : Place} {as' : Option Arguments} {u : RUse} {bs : List RExpr} → ResolvesUse env f (Some n) p (given as') u bs → ResolvesNamed env (Named.new f n) t p as' (value (x.New (u, bs)))
-    named_type : {n : RTypeName} {t : Option RTypeName} {p : Place} {as' : Option Arguments} → ResolvesNamed env (Named.type n) t p as' (names n)
+    named_type : {n : RTypeName} {available : Bool} {t : Option RTypeName} {p : Place} {as' : Option Arguments} → available ≡ true → ResolvesNamed env (Named.type n available) t p as' (names n)
 
   -- A member behind a value. What mutates is called on a place, which has types, and whose properties can be set.
   pub data ResolvesBehind (env : Env) : Bool → Found → RExpr → List RMember → Place → Option Arguments → Chain → Type 0 where
@@ -135,7 +135,7 @@ mutual
   pub data ResolvesUse (env : Env) : Found → Option RTypeName → Place → Arguments → RUse → List RExpr → Type 0 where
     used : {f : Found} {t : Option RTypeName} {p : Place} {as' : Arguments} {own : List (Option RExpr)} {ts : List RType} {bs : List RExpr} {qs : List ConfPath} {u : RType} →
         even f.shape.params as' ≡ true → use_types f own ≡ Some ts → ResolvesArguments env f.shape ts (slots f as') own bs → Paths env f.shape ts f.shape.required qs → Equals env f.shape ts f.shape.equal →
-        env.names.available f.key ≡ true → Stands env f.shape ts f.shape.result u → ResolvesUse env f t p as' (use_of f t p ts qs u) bs
+        f.available ≡ true → Stands env f.shape ts f.shape.result u → ResolvesUse env f t p as' (use_of f t p ts qs u) bs
 
   -- What chooses a generic parameter is judged with nothing expected, and its own type is chosen. Each argument then is converted to its parameter's type.
   pub data ResolvesArguments (env : Env) : Shape → List RType → List (Slot Expr) → List (Option RExpr) → List RExpr → Type 0 where

@@ -163,7 +163,7 @@ module _ {I A : Type 0} (P : Option RType → A → Judge I Oracle SourceFault D
       (λ ts. follows (each (filled f.shape ts p) (paired (slots f as') own))
       (λ bs. follows (each (path f.shape ts (λ r. chooser_place at (slots f as') r p)) f.shape.required)
       (λ qs. follows (each (equal f.shape ts (λ r. chooser_place at (slots f as') r p)) f.shape.equal)
-      (λ es. follows (ensures (fault p Unavailable) (env.names.available f.key))
+      (λ es. follows (ensures (fault p Unavailable) f.available)
       (λ u. follows (standing f.shape ts p f.shape.result)
       (λ v. gives (use_of f t p ts qs v, bs)))))))))
 
@@ -171,7 +171,7 @@ module _ {I A : Type 0} (P : Option RType → A → Judge I Oracle SourceFault D
   named (Named.case f) t p as' = follows (using f t p (given as')) (λ a. gives (value (x.Case a)))
   named (Named.free f) t p as' = follows (using f t p (given as')) (λ a. gives (value (x.Call a)))
   named (Named.new f n) t p as' = follows (using f (Some n) p (given as')) (λ a. gives (value (x.New a)))
-  named (Named.type n) t p as' = gives (names n)
+  named (Named.type n available) t p as' = follows (ensures (fault p Unavailable) available) (λ u. gives (names n))
 
   -- ---- members
 

@@ -63,11 +63,12 @@ pub record Local : Type 0 where
   pub type : RType
   pub mutable : Bool
 
--- a declaration that a search finds; `given` has what `Self` stands for, where it is a member of a protocol
+-- A declaration that a search finds. `given` has what `Self` stands for, where it is a member of a protocol; `available` says that it may be used here.
 pub record Found : Type 0 where
   pub key : Key
   pub shape : Shape
   pub given : List RType
+  pub available : Bool
 
 -- what needs no value before it
 pub data Named : Type 0 where
@@ -75,7 +76,8 @@ pub data Named : Type 0 where
   -- a function at top level, or a static one
   free : Found → Named
   new : Found → RTypeName → Named
-  type : RTypeName → Named
+  -- and whether it may be used here
+  type : RTypeName → Bool → Named
 
 -- what a name means that stands alone
 pub data Meaning : Type 0 where
@@ -99,7 +101,6 @@ pub record Names : Type 1 where
   pub shape : Key → Option Shape → Type 0
   pub stands : Signature → List RType → RType → Option RType → Type 0
   pub path : RType → Key → Option ConfPath → Type 0
-  pub available : Key → Bool
   -- `self` may be set
   pub mutable_self : Bool
   -- what `Self` means
