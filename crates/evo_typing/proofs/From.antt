@@ -23,7 +23,7 @@ use Rattle.evo_resolved.specs.declared.expression.RMember.TheVariants as y
 use Rattle.evo_judging.specs.Judge.{EachOf, each}
 use Rattle.evo_names.specs.Typing.{is_bool}
 use Rattle.evo_typing.specs.Shapes.{Shape, Declared, Owner, nowhere, of_type, of_protocol, Found, Named, Meaning, Env, Denoted, value, names, Before, nothing, before, super, Suits}
-use Rattle.evo_typing.specs.Trees.{place_of, chooser_place, given, Slot, slots, slots_from, even, paired, last_type, type_of, has_value, plain_of}
+use Rattle.evo_typing.specs.Trees.{type_name, place_of, chooser_place, given, Slot, slots, slots_from, even, paired, last_type, type_of, has_value, plain_of}
 use Rattle.evo_typing.specs.Typed.{Typed, TypedLevel, TypedOperands, no_operand, one_operand, TypedMembers, no_member, one_member, TypedMember, of_property, of_call, TypedUse, AllHave, none_left, one_more, TypedPrinted, none_printed, one_printed, AllLead, none_required, one_required, AllEqual, none_equal, one_equal, CanSet, Fits}
 use Rattle.evo_typing.specs.Typed as typing
 use Rattle.evo_typing.specs.Places as places
@@ -192,7 +192,7 @@ module _ (env : Env) (known : Known env) where
   named_from : (n : Named) (t : Option RTypeName) (p : Place) (as' : Option Arguments) (b : Denoted) → KnowsNamed env n → (rule.named (a_part env) (λ a. a) env n t p as').holds b → IsNamed n t p as' b
   named_from (Named.case f) t p as' b knows (q, h, e) = let k = using_from nothing f t p (given as') q knows h in subst (IsNamed (Named.case f) t p as') e (named_case k.0, put _ _ (x.outs-Case q) (TypedLevel.case k.1))
   named_from (Named.free f) t p as' b knows (q, h, e) = let k = using_from nothing f t p (given as') q knows h in subst (IsNamed (Named.free f) t p as') e (named_free k.0, put _ _ (x.outs-Call q) (TypedLevel.call k.1))
-  named_from (Named.new f n) t p as' b knows (q, h, e) = let k = using_from nothing f (Some n) p (given as') q knows h in subst (IsNamed (Named.new f n) t p as') e (named_new k.0, put _ _ (x.outs-New q) (TypedLevel.new k.1))
+  named_from (Named.new f n) t p as' b knows (q, h, e) = let k = using_from nothing f (Some (type_name t p n)) p (given as') q knows h in subst (IsNamed (Named.new f n) t p as') e (named_new k.0, put _ _ (x.outs-New q) (TypedLevel.new k.1))
   named_from (Named.type n available) t p as' b knows (u, is, e) = subst (IsNamed (Named.type n available) t p as') e (named_type is, tt)
 
   -- ---- members

@@ -21,7 +21,7 @@ use Rattle.evo_judging.specs.Judge.{Judge}
 use Rattle.evo_judging.specs.Right.{Right}
 use Rattle.evo_judging.proofs.Judges.{AllOf, gives_right, refuses_right, needs_right, ensures_right, learns_right, follows_right, splits_right, each_right}
 use Rattle.evo_typing.specs.Shapes.{Shape, Found, Named, Meaning, Env, Denoted}
-use Rattle.evo_typing.specs.Trees.{given, is_implicit, Slot, slots_from, slots, paired, type_of}
+use Rattle.evo_typing.specs.Trees.{type_name, given, is_implicit, Slot, slots_from, slots, paired, type_of}
 use Rattle.evo_typing.specs.Places.{Chain, at_value, at_type, begun, Root, steps_of}
 use Rattle.evo_typing.specs.Rule as rule
 use Rattle.evo_typing.specs.Rule.{Oracle, Tells}
@@ -140,7 +140,7 @@ module _ {I : Type 0} (N : I → SourceFault → Type 0) (P : Option RType → E
   named_right : (n : Named) (t : Option RTypeName) (p : Place) (as' : Option Args) → Given as' → Right N E (rule.named P (λ a. a) env n t p as')
   named_right (Named.case f) t p as' r = follows_right N E (using_right f t p (given as') r) (λ a h. gives_right N E _)
   named_right (Named.free f) t p as' r = follows_right N E (using_right f t p (given as') r) (λ a h. gives_right N E _)
-  named_right (Named.new f n) t p as' r = follows_right N E (using_right f (Some n) p (given as') r) (λ a h. gives_right N E _)
+  named_right (Named.new f n) t p as' r = follows_right N E (using_right f (Some (type_name t p n)) p (given as') r) (λ a h. gives_right N E _)
   named_right (Named.type n available) t p as' r = follows_right N E (ensures_right N E _ _) (λ u h. gives_right N E _)
 
   -- ---- members

@@ -20,7 +20,7 @@ use Rattle.evo_resolved.specs.declared.expression.RMember.{RMember}
 use Rattle.evo_judging.specs.Judge.{bind, by_option, need, ensure, gather, each}
 use Rattle.evo_names.specs.Listed.{Text}
 use Rattle.evo_typing.specs.Shapes.{Shape, Found, Named, Meaning, Env, Denoted, value}
-use Rattle.evo_typing.specs.Trees.{place_of, is_implicit, labels, call_labels, label_text, given, Slot, slots_from, slots, is_chooser, even, paired, chooser_place, is_of, use_types, use_of, has_value, right_expected, last_type, type_of, chain_expected}
+use Rattle.evo_typing.specs.Trees.{type_name, place_of, is_implicit, labels, call_labels, label_text, given, Slot, slots_from, slots, is_chooser, even, paired, chooser_place, is_of, use_types, use_of, has_value, right_expected, last_type, type_of, chain_expected}
 use Rattle.evo_typing.specs.Places.{Chain, at_value, at_type, begun}
 use Rattle.evo_typing.specs.Rule as rule
 use Rattle.evo_typing.specs.Rule.{Oracle, fault}
@@ -150,7 +150,7 @@ module _ (env : Env) (o : Oracle) where
   named_same : (n : Named) (t : Option RTypeName) (p : Place) (as' : Option Args) → (rule.named looked W env n t p (seen_args as')).walk o ≡ (rule.named (a_part env) (λ a. a) env n t p as').walk o
   named_same (Named.case f) t p as' = bind_same (given_using f t p as') (λ a. refl)
   named_same (Named.free f) t p as' = bind_same (given_using f t p as') (λ a. refl)
-  named_same (Named.new f n) t p as' = bind_same (given_using f (Some n) p as') (λ a. refl)
+  named_same (Named.new f n) t p as' = bind_same (given_using f (Some (type_name t p n)) p as') (λ a. refl)
   named_same (Named.type n available) t p as' = refl
 
   -- ---- members

@@ -22,9 +22,9 @@ use Rattle.evo_resolved.specs.declared.expression.RMember.{RMember}
 use Rattle.evo_resolved.specs.declared.expression.RMember.TheVariants as y
 use Rattle.evo_names.specs.Listed.{Text}
 use Rattle.evo_names.specs.Typing.{bool, is_message}
-use Rattle.evo_typing.specs.Shapes.{Shape, Found, Named, Meaning, Env, Denoted, value, names}
+use Rattle.evo_typing.specs.Shapes.{Shape, Found, Written, Named, Meaning, Env, Denoted, value, names}
 use Rattle.evo_typing.specs.Shapes as shapes
-use Rattle.evo_typing.specs.Trees.{has_value, type_of, last_type, signed, right_expected, chain_expected, labels, call_labels, given, even, Slot, slots, use_types, use_of, is_short}
+use Rattle.evo_typing.specs.Trees.{has_value, type_of, last_type, signed, right_expected, chain_expected, labels, call_labels, given, even, Slot, slots, use_types, type_name, use_of, is_short}
 use Rattle.evo_typing.specs.Places.{Chain, at_value, at_type, denoted, begun, TypedChain, root_of, steps_of, mutated}
 
 abbrev pub negative : ℕ → ℤ
@@ -115,8 +115,8 @@ mutual
   pub data ResolvesNamed (env : Env) : Named → Option RTypeName → Place → Option Arguments → Denoted → Type 0 where
     named_case : {f : Found} {t : Option RTypeName} {p : Place} {as' : Option Arguments} {u : RUse} {bs : List RExpr} → ResolvesUse env f t p (given as') u bs → ResolvesNamed env (Named.case f) t p as' (value (x.Case (u, bs)))
     named_free : {f : Found} {t : Option RTypeName} {p : Place} {as' : Option Arguments} {u : RUse} {bs : List RExpr} → ResolvesUse env f t p (given as') u bs → ResolvesNamed env (Named.free f) t p as' (value (x.Call (u, bs)))
-    named_new : {f : Found} {n : RTypeName} {t : Option RTypeName} {p : Place} {as' : Option Arguments} {u : RUse} {bs : List RExpr} → ResolvesUse env f (Some n) p (given as') u bs → ResolvesNamed env (Named.new f n) t p as' (value (x.New (u, bs)))
-    named_type : {n : RTypeName} {available : Bool} {t : Option RTypeName} {p : Place} {as' : Option Arguments} → available ≡ true → ResolvesNamed env (Named.type n available) t p as' (names n)
+    named_new : {f : Found} {n : Written} {t : Option RTypeName} {p : Place} {as' : Option Arguments} {u : RUse} {bs : List RExpr} → ResolvesUse env f (Some (type_name t p n)) p (given as') u bs → ResolvesNamed env (Named.new f n) t p as' (value (x.New (u, bs)))
+    named_type : {n : Written} {available : Bool} {t : Option RTypeName} {p : Place} {as' : Option Arguments} → available ≡ true → ResolvesNamed env (Named.type n available) t p as' (names (type_name t p n))
 
   -- A member behind a value. What mutates is called on a place, which has types, and whose properties can be set.
   pub data ResolvesBehind (env : Env) : Bool → Found → RExpr → List RMember → Place → Option Arguments → Chain → Type 0 where

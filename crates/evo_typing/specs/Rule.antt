@@ -28,7 +28,7 @@ use Rattle.evo_judging.specs.Judge.{Judge, gives, refuses, needs, ensures, learn
 use Rattle.evo_names.specs.Listed.{Text}
 use Rattle.evo_names.specs.Typing.{bool, is_bool, is_plain, is_message, prefix_type}
 use Rattle.evo_typing.specs.Shapes.{Shape, Declared, Found, Named, Meaning, Env, Denoted, value, names}
-use Rattle.evo_typing.specs.Trees.{has_value, type_of, last_type, signed, right_expected, chain_expected, place_of, is_implicit, labels, call_labels, given, even, Slot, slots, use_types, use_of, paired, chooser_place, is_short, plain_of}
+use Rattle.evo_typing.specs.Trees.{has_value, type_of, last_type, signed, right_expected, chain_expected, place_of, is_implicit, labels, call_labels, given, even, Slot, slots, use_types, type_name, use_of, paired, chooser_place, is_short, plain_of}
 use Rattle.evo_typing.specs.Places.{Chain, at_value, at_type, denoted, begun, Root, root_of, steps_of, mutated}
 use Rattle.evo_typing.specs.Resolves.{negative}
 
@@ -170,8 +170,8 @@ module _ {I A : Type 0} (P : Option RType → A → Judge I Oracle SourceFault D
   abbrev pub named : Named → Option RTypeName → Place → Option (List (Option Identifier × A)) → Judges Denoted
   named (Named.case f) t p as' = follows (using f t p (given as')) (λ a. gives (value (x.Case a)))
   named (Named.free f) t p as' = follows (using f t p (given as')) (λ a. gives (value (x.Call a)))
-  named (Named.new f n) t p as' = follows (using f (Some n) p (given as')) (λ a. gives (value (x.New a)))
-  named (Named.type n available) t p as' = follows (ensures (fault p Unavailable) available) (λ u. gives (names n))
+  named (Named.new f n) t p as' = follows (using f (Some (type_name t p n)) p (given as')) (λ a. gives (value (x.New a)))
+  named (Named.type n available) t p as' = follows (ensures (fault p Unavailable) available) (λ u. gives (names (type_name t p n)))
 
   -- ---- members
 

@@ -70,14 +70,19 @@ pub record Found : Type 0 where
   pub given : List RType
   pub available : Bool
 
+-- what the name of a type means, and the `typealias`es that it meets
+pub record Written : Type 0 where
+  pub aliases : List Key
+  pub type : RType
+
 -- what needs no value before it
 pub data Named : Type 0 where
   case : Found → Named
   -- a function at top level, or a static one
   free : Found → Named
-  new : Found → RTypeName → Named
+  new : Found → Written → Named
   -- and whether it may be used here
-  type : RTypeName → Bool → Named
+  type : Written → Bool → Named
 
 -- what a name means that stands alone
 pub data Meaning : Type 0 where

@@ -19,7 +19,7 @@ use Rattle.evo_resolved.specs.declared.expression.RExpr.TheOpen as r
 use Rattle.evo_resolved.specs.declared.expression.RMember.{RMember, RMember-F, out-RMember}
 use Rattle.evo_names.specs.Listed.{Text}
 use Rattle.evo_names.specs.Typing.{int, bool, is_int, is_bool, is_string, is_plain, literal_type, chooser, chosen, same_number}
-use Rattle.evo_typing.specs.Shapes.{Local, Found, Denoted, value, names}
+use Rattle.evo_typing.specs.Shapes.{Local, Found, Written, Denoted, value, names}
 
 -- ---- the types of resolved trees
 
@@ -203,6 +203,11 @@ is_of t u = false
 abbrev pub chooser_place : {A : Type 0} → (A → Place) → List (Slot A) → RType → Place → Place
 chooser_place at [] t p = p
 chooser_place at (s ∷ ss) t p = if s.chooses && is_of s.param t then at s.arg else chooser_place at ss t p
+
+-- a type where it stands: behind the type that is written before it, or alone
+abbrev pub type_name : Option RTypeName → Place → Written → RTypeName
+type_name None p w = record { place = p; aliases = w.aliases; ty = w.type }
+type_name (Some t) p w = record { place = t.place; aliases = t.aliases ++ w.aliases; ty = w.type }
 
 abbrev pub use_of : Found → Option RTypeName → Place → List RType → List ConfPath → RType → RUse
 use_of f written p ts qs t = record { place = p; key = f.key; reach = f.shape.reach; written = written; types = ts; paths = qs; ty = t }
