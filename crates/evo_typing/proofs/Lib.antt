@@ -1,0 +1,7 @@
+pub mod Rules
+pub mod Walks
+pub mod Forms
+pub mod From
+pub mod To
+pub mod Exact
+pub mod Grows

@@ -1,0 +1,9 @@
+pub mod Shapes
+pub mod Trees
+pub mod Typed
+pub mod Places
+pub mod Resolves
+pub mod Rule
+pub mod Infer
+pub mod Known
+pub mod Laws

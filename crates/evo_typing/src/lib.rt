@@ -1,0 +1,5 @@
+//! Typing of bodies.
+#![tactic(auto)]
+
+/// Nothing. A crate has one function at least.
+pub fn nothing() {}
