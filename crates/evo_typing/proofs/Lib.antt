@@ -5,3 +5,4 @@ pub mod From
 pub mod To
 pub mod Exact
 pub mod Grows
+pub mod Answers
