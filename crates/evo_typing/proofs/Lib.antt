@@ -6,3 +6,4 @@ pub mod To
 pub mod Exact
 pub mod Grows
 pub mod Answers
+pub mod Wholes

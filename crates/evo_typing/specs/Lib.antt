@@ -9,4 +9,5 @@ pub mod Known
 pub mod Site
 pub mod Searches
 pub mod Facts
+pub mod Whole
 pub mod Laws

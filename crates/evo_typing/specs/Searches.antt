@@ -1,19 +1,16 @@
 -- What the names of an expression find where it stands: the searches of names, each with the declaration that is meant and what its uses have to fit.
-use Rattle.std.specs.Prelude.{◌≡◌, ℕ, List, [], ◌∷◌, ◌++◌, map, flat_map, codes, Option, Some, None, Bool, true, false, not, ◌&&◌, ◌||◌, ◌==◌, length, Result, Ok, Err, slice_get, if◌then◌else◌}
+use Rattle.std.specs.Prelude.{◌≡◌, ℕ, List, [], ◌∷◌, ◌++◌, map, flat_map, codes, Option, Some, None, Bool, true, false, ◌&&◌, ◌||◌, ◌==◌, length, Result, Ok, Err, slice_get, if◌then◌else◌}
 use Rattle.std.specs.List.{list_all}
-use Rattle.std.specs.Option.{option_and_then, option_map_or}
+use Rattle.std.specs.Option.{option_map_or}
 use Rattle.evo_base.specs.declared.key.Key.{Key}
 use Rattle.evo_base.specs.declared.fault_kind.FaultKind.{FaultKind}
 use Rattle.evo_base.specs.declared.fault_kind.FaultKind.TheVariants.{NoSuchName, WrongLabels, WrongType}
 use Rattle.evo_tree.specs.declared.name.Identifier.{Identifier}
 use Rattle.evo_tree.specs.declared.declaration.Payload.{Payload}
-use Rattle.evo_tree.specs.declared.declaration.NominalKind.{NominalKind}
-use Rattle.evo_tree.specs.declared.declaration.NominalKind.TheVariants as nominal
 use Rattle.evo_tree.specs.declared.declaration.DeclKind.TheOpen as de
 use Rattle.evo_resolved.specs.declared.resolved_type.RType.{RType}
 use Rattle.evo_resolved.specs.declared.resolved_type.RType.TheVariants as ty
 use Rattle.evo_resolved.specs.declared.resolved_type.RTypeName.{RTypeName}
-use Rattle.evo_resolved.specs.declared.declaration.Signature.{Signature}
 use Rattle.evo_resolved.specs.declared.declaration.RDecl.{RDecl}
 use Rattle.evo_resolved.specs.declared.expression.Reach.TheVariants as reach
 use Rattle.evo_resolved.specs.declared.expression.Builtin.{Builtin}
@@ -23,7 +20,7 @@ use Rattle.evo_names.specs.declared.declared_name.Sort.TheVariants as sort
 use Rattle.evo_names.specs.Listed.{Text, Kind, World, Declaration, declarations, sort_of, is_top, is_static, overrides}
 use Rattle.evo_names.specs.Meets.{same_name, same_labels}
 use Rattle.evo_names.specs.Heads.{is_protocol, is_language_type, conformances, lineage, superclass}
-use Rattle.evo_names.specs.Written.{Leads, fixed, Means, Start}
+use Rattle.evo_names.specs.Written.{Leads, fixed, Means}
 use Rattle.evo_names.specs.Resolved.{IsDeclared, IsMemberwise, unwritten_structs}
 use Rattle.evo_names.specs.Dispatch.{reach_of}
 use Rattle.evo_names.specs.Search as search
@@ -33,7 +30,7 @@ use Rattle.evo_solve.specs.Equal.{path_of}
 use Rattle.evo_solve.specs.Canonical.{IsCanonical}
 use Rattle.evo_solve.specs.Stands.{Requires, StandsFor}
 use Rattle.evo_solve.specs.Ways.{PathOrNone, goal_of}
-use Rattle.evo_typing.specs.Shapes.{Shape, Owner, of_protocol, Local, Found, Written, Named, Meaning, Names, Env, Before, nothing, before, super, Suits}
+use Rattle.evo_typing.specs.Shapes.{Owner, of_protocol, Local, Found, Written, Named, Meaning, Names, Env, Before, nothing, before, Suits}
 use Rattle.evo_typing.specs.Known.{above}
 use Rattle.evo_typing.specs.Site.{Site, in_static, self_of, scope, viewpoint, self_type, shape_of, Stated, declared_at, may_use, may_use_types}
 

@@ -1,14 +1,13 @@
 -- Where an expression stands, what the declarations that it sees ask of uses, and whether they may be used there.
-use Rattle.std.specs.Prelude.{◌≡◌, ℕ, List, [], ◌∷◌, ◌++◌, map, flat_map, Option, Some, None, Bool, true, false, not, ◌&&◌, ◌||◌, nat_lt, ◌==◌, slice_get, if◌then◌else◌}
+use Rattle.std.specs.Prelude.{◌≡◌, ℕ, List, [], ◌∷◌, map, flat_map, Option, Some, None, Bool, true, false, not, ◌&&◌, ◌||◌, nat_lt, ◌==◌, slice_get, if◌then◌else◌}
 use Rattle.std.specs.List.{list_any, list_all}
-use Rattle.std.specs.Option.{option_map, option_and_then, option_map_or}
+use Rattle.std.specs.Option.{option_map_or}
 use Rattle.evo_base.specs.declared.key.Key.{Key}
 use Rattle.evo_base.specs.declared.place.Release.{Release}
 use Rattle.evo_tree.specs.Declarations.{has_modifier}
 use Rattle.evo_tree.specs.declared.name.Identifier.{Identifier}
 use Rattle.evo_tree.specs.declared.statement.Introducer.{Introducer}
 use Rattle.evo_tree.specs.declared.statement.Introducer.TheVariants as introducer
-use Rattle.evo_tree.specs.declared.declaration.Availability.{Availability}
 use Rattle.evo_tree.specs.declared.declaration.Availability.TheVariants as availability
 use Rattle.evo_tree.specs.declared.declaration.AttrKind.{AttrKind}
 use Rattle.evo_tree.specs.declared.declaration.AttrKind.TheVariants as attr
@@ -34,12 +33,12 @@ use Rattle.evo_resolved.specs.declared.declaration.RDecl.{RDecl}
 use Rattle.evo_resolved.specs.declared.expression.Reach.{Reach}
 use Rattle.evo_resolved.specs.declared.expression.Reach.TheVariants as reach
 use Rattle.evo_names.specs.declared.declared_name.DeclaredName.{DeclaredName}
-use Rattle.evo_names.specs.Listed.{Text, World, Declaration, declarations, imported_declarations, is_static, overrides}
+use Rattle.evo_names.specs.Listed.{World, Declaration, declarations, is_static, overrides}
 use Rattle.evo_names.specs.Meets.{same_name, same_names, same_labels}
 use Rattle.evo_names.specs.Heads.{Head, is_among, owner_of}
-use Rattle.evo_names.specs.Seen.{Viewpoint, same_type}
+use Rattle.evo_names.specs.Seen.{Viewpoint}
 use Rattle.evo_names.specs.Keys.{declared_name}
-use Rattle.evo_names.specs.Written.{Around, nowhere, in_type, in_protocol, Scope, view}
+use Rattle.evo_names.specs.Written.{Around, nowhere, in_protocol, Scope, view}
 use Rattle.evo_names.specs.Faults.{scope_of}
 use Rattle.evo_names.specs.Resolved.{IsDeclared, IsMemberwise, unwritten_structs}
 use Rattle.evo_names.specs.Dispatch.{reach_of}
