@@ -7,3 +7,4 @@ pub mod Exact
 pub mod Grows
 pub mod Answers
 pub mod Wholes
+mod WalkExamples
