@@ -5,3 +5,6 @@ pub mod From
 pub mod To
 pub mod Exact
 pub mod Grows
+pub mod Answers
+pub mod Wholes
+mod WalkExamples

@@ -52,7 +52,7 @@ module _ (env : Env) (known : Known env) where
   valued_to {b} r h is = (b, plain_to r h, (tt, is, refl))
 
   -- a conversion that has types, to the type that is expected
-  fitted_to : {b c : RExpr} (a : Expr) (t : RType) → Converts b c → Has c → type_of c ≡ t → Has b × (rule.fitted (a_part env) (λ a. a) env a b t).holds c
+  pub fitted_to : {b c : RExpr} (a : Expr) (t : RType) → Converts b c → Has c → type_of c ≡ t → Has b × (rule.fitted (a_part env) (λ a. a) env a b t).holds c
   fitted_to {b} {c} a t con h is = let k = converts_is env con h in (k.0, subst (λ t. (rule.fitted (a_part env) (λ a. a) env a b t).holds c) is k.1)
 
   -- ---- searches

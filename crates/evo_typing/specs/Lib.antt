@@ -6,4 +6,8 @@ pub mod Resolves
 pub mod Rule
 pub mod Infer
 pub mod Known
+pub mod Site
+pub mod Searches
+pub mod Facts
+pub mod Whole
 pub mod Laws
