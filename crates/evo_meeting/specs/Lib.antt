@@ -1,0 +1,4 @@
+pub mod Spots
+pub mod WrittenNames
+pub mod Unwritten
+pub mod Candidates
