@@ -45,7 +45,7 @@ any_from p n i (suc k) (x ∷ xs) at e =
     later (bytes_eq n x) p i (numbers_from (i + 1) n xs) (any_from p n (i + 1) k xs at (subst (λ m. p m ≡ true) next e))
 
 -- a test that passes at a number where a list has a text passes among the numbers of that text
-any_of : {A : Type 0} (f : A → Text) (p : ℕ → Bool) (xs : List A) (k : ℕ) (x : A) (n : Text) → slice_get xs k ≡ Some x → f x ≡ n → p k ≡ true → list_any p (numbers_of n (map f xs)) ≡ true
+pub any_of : {A : Type 0} (f : A → Text) (p : ℕ → Bool) (xs : List A) (k : ℕ) (x : A) (n : Text) → slice_get xs k ≡ Some x → f x ≡ n → p k ≡ true → list_any p (numbers_of n (map f xs)) ≡ true
 any_of f p xs k x n at same e =
     let there : slice_get (map f xs) k ≡ Some n = slice_get-map f xs k ∙ ap (λ o. option_map f o) at ∙ ap Some same in
     let first : k ≡ 0 + k = omega arith in

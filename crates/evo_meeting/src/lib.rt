@@ -5,12 +5,14 @@
 #![tactic(auto)]
 
 mod buckets;
+mod declared;
 mod meeting;
 mod memberwise;
 mod named;
 mod spot;
 mod twice;
 
+pub use declared::{context_of, declared_name, push_declared_names};
 pub use meeting::meets;
 pub use named::{WrittenName, header_of, name_of, overrides};
 pub use spot::{Context, Spot};

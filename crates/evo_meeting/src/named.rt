@@ -9,7 +9,9 @@ ghost use Rattle.evo_names.specs.Listed as names;
 use evo_base::Place;
 use evo_declarations::{Listed, Within, has_modifier};
 use evo_names::Sort;
-use evo_tree::{DeclKind, Header, Identifier, ModifierKind, NominalKind, Parameter, ParameterLabel};
+use evo_tree::{
+    DeclKind, Header, Identifier, ModifierKind, NominalKind, Parameter, ParameterLabel,
+};
 use std::alloc::{AllocError, Global};
 
 /// A name, and where it is written.

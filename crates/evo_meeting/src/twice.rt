@@ -35,13 +35,7 @@ fn met_among(spots: &[Spot<'_>], number: usize, spot: &Spot<'_>, candidates: &[u
 }
 
 /// Whether one of those with this text comes before the number, and meets the declaration.
-fn met_in(
-    spots: &[Spot<'_>],
-    groups: &Groups,
-    number: usize,
-    spot: &Spot<'_>,
-    text: &[u8],
-) -> bool
+fn met_in(spots: &[Spot<'_>], groups: &Groups, number: usize, spot: &Spot<'_>, text: &[u8]) -> bool
     ensures { result ≡ spec.met_among (spot_views spots.now) number (spot_view spot.now) (group_of groups.now text.now) }
 {
     met_among(spots, number, spot, groups.having(text))
