@@ -1,5 +1,6 @@
 -- What is answered of headers is a fault, and where nothing is answered the others are left.
-use Rattle.std.proofs.Common.{◌≡◌, Some, None}
+use Rattle.std.proofs.Common.{◌≡◌, Option, Some, None, MatchOption, sym, subst}
+use Rattle.evo_tree.specs.declared.module.SourceFault.{SourceFault}
 use Rattle.evo_base.specs.declared.place.Place.{Place}
 use Rattle.evo_base.specs.declared.fault_kind.FaultKind.{FaultKind}
 use Rattle.evo_base.specs.declared.fault_kind.FaultKind.TheVariants as kind
@@ -8,7 +9,7 @@ use Rattle.evo_declarations.proofs.PastLimits.{past_limits}
 use Rattle.evo_names.specs.Listed.{World}
 use Rattle.evo_names.specs.Faults.{IsFault}
 use Rattle.evo_names.specs.Faults as faults
-use Rattle.evo_name_faults.specs.Others.{IsOther, OnlyOthers}
+use Rattle.evo_name_faults.specs.Others.{IsOther, OnlyOthers, IsFaultAt}
 use Rattle.evo_name_faults.specs.Others as others
 use Rattle.evo_name_faults.specs.Twice.{taken_name}
 use Rattle.evo_name_faults.specs.Unknown.{unknown_name}
@@ -17,8 +18,8 @@ use Rattle.evo_name_faults.proofs.UnknownNames.{NoneUnknown, unknown_none}
 
 left_by : (w : World) → past_limit w.own ≡ None → NoneUnknown w → NoneTaken w → (k : FaultKind) (p : Place) → IsFault w k p → IsOther w p
 left_by w within unknown taken k p (faults.meet m) = others.meet m
-left_by w within unknown taken k p (faults.taken {p} {n} i d at top named test) = absurd (taken.top i d p n at top named test)
-left_by w within unknown taken k p (faults.alias {p} {n} i d at is named test) = absurd (taken.aliases i d p n at is named test)
+left_by w within unknown taken k p (faults.taken {p = q} {n} i d at top named test) = absurd (taken.top i d q n at top named test)
+left_by w within unknown taken k p (faults.alias {p = q} {n} i d at is named test) = absurd (taken.aliases i d q n at is named test)
 left_by w within unknown taken k p (faults.generic i j d g at at_g test) = absurd (taken.modules i j d g at at_g test)
 left_by w within unknown taken k p (faults.generics i j l d g h at at_g at_h less same) = absurd (taken.again i j l d g h at at_g at_h less same)
 left_by w within unknown taken k p (faults.conformance is a b before) = others.conformance is a b before
@@ -34,3 +35,6 @@ left_by w within unknown taken k p (faults.payload {c} {ps} i d q at is here) = 
 
 pub left : (w : World) → past_limit w.own ≡ None → unknown_name w ≡ None → taken_name w ≡ None → OnlyOthers w
 left w within unknown taken = λ k p f. left_by w within (unknown_none w unknown) (taken_none w taken) k p f
+
+pub told : (w : World) (o : Option SourceFault) (k : FaultKind) (p : Place) → o ≡ Some (record { kind = k; place = p }) → IsFault w k p → MatchOption o (OnlyOthers w) (IsFaultAt w)
+told w o k p is f = subst (λ (x : Option SourceFault). MatchOption x (OnlyOthers w) (IsFaultAt w)) (sym is) f

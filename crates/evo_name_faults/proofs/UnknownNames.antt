@@ -1,5 +1,5 @@
 -- A name that is answered as none is a fault, and where none is answered there is none.
-use Rattle.std.proofs.Common.{◌≡◌, ℕ, zero, suc, List, [], ◌∷◌, ◌++◌, map, flat_map, Bool, true, false, Option, Some, None, slice_get, IsTrue, refl, sym, ap, ◌∙◌, ◌⊎◌, subst, if◌then◌else◌}
+use Rattle.std.proofs.Common.{◌≡◌, ℕ, zero, suc, List, [], ◌∷◌, ◌++◌, map, flat_map, Bool, true, false, Option, Some, None, slice_get, IsTrue, refl, sym, ap, ◌∙◌, ◌⊎◌, inl, inr, subst, if◌then◌else◌}
 use Rattle.std.specs.Option.{option_or, option_map_or}
 use Rattle.evo_base.specs.declared.key.Key.{Key}
 use Rattle.evo_base.specs.declared.place.Place.{Place}
