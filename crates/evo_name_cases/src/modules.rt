@@ -76,7 +76,10 @@ fn of_module(alloc: Global, form: &str, text: &str) -> Result<String, AllocError
 
 fn of_client(alloc: Global, imported: &Module, text: &str) -> Result<String, AllocError> {
     match read(alloc, "C", text)? {
-        Ok(module) => told(alloc, fault_of_client(alloc, module.tree(), imported.tree())?),
+        Ok(module) => told(
+            alloc,
+            fault_of_client(alloc, module.tree(), imported.tree())?,
+        ),
         Err(fault) => unread(alloc, fault),
     }
 }

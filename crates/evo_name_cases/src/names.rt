@@ -1,10 +1,10 @@
 //! The faults of names.
 
+use evo_base::FaultKind;
 use evo_declarations::{Listing, Names, World};
 use evo_meeting::{first_twice, push_declared_names};
 use evo_name_faults::header_fault;
 use evo_tree::{ModuleTree, SourceFault};
-use evo_base::FaultKind;
 use std::alloc::{AllocError, Global};
 
 fn fault_of(alloc: Global, world: World<'_>) -> Result<Option<SourceFault>, AllocError> {
