@@ -1,2 +1,5 @@
 pub mod Lists
 pub mod PastLimits
+pub mod Grouping
+pub mod ByGroup
+pub mod HeadsInGroups

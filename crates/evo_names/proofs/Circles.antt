@@ -1,10 +1,10 @@
 -- What leads to itself means nothing; and how written types come to what they mean.
-use Rattle.std.proofs.Common.{◌≡◌, List, [], ◌∷◌, ◌++◌, Option, Some, None, refl, sym, ap, subst, ◌∙◌}
+use Rattle.std.proofs.Common.{◌≡◌, List, [], ◌∷◌, Option, Some, None, refl, sym, ap, subst, ◌∙◌}
 use Rattle.evo_base.specs.declared.key.Key.{Key}
 use Rattle.evo_resolved.specs.declared.resolved_type.RType.{RType}
 use Rattle.evo_names.specs.Listed.{Text, World, list_of}
 use Rattle.evo_names.specs.Seen.{Viewpoint}
-use Rattle.evo_names.specs.Written.{Scope, Start, fixed, via, view, beginning, behind, Leads, whole, further, elsewhere}
+use Rattle.evo_names.specs.Written.{Scope, Start, fixed, via, view, beginning, behind, Leads, whole, further, elsewhere, joined}
 
 -- a start in another place, which leads on to one of a set of starts
 pub record Turn (w : World) (Loop : Start → Type 0) (x : Start) : Type 0 where
@@ -36,15 +36,15 @@ circle w Loop turn (elsewhere {a} {s} {ms} x rest first later t e d f is) l =
     circle w Loop turn d (subst Loop (sym (ap (λ (q : Start × List Text). q.0) both)) here.stays)
 
 -- names that stand for a type at once
-pub at_once : {w : World} {v : Viewpoint} {a : Option Key} {s : Scope} {ms : List Text} {t : RType} → beginning w s ms ≡ Some (fixed t, []) → Leads w v (via a s ms) [] (list_of a ++ [] ++ []) t
+pub at_once : {w : World} {v : Viewpoint} {a : Option Key} {s : Scope} {ms : List Text} {t : RType} → beginning w s ms ≡ Some (fixed t, []) → Leads w v (via a s ms) [] (list_of a) t
 at_once {t} e = elsewhere (fixed t) [] [] [] t e whole whole refl
 
 -- through a `typealias` or a default
-pub through : {w : World} {v : Viewpoint} {a : Option Key} {s : Scope} {ms : List Text} {t : RType} {met all : List Key} (x : Start) → beginning w s ms ≡ Some (x, []) → Leads w (view s) x [] met t → all ≡ list_of a ++ met ++ [] → Leads w v (via a s ms) [] all t
+pub through : {w : World} {v : Viewpoint} {a : Option Key} {s : Scope} {ms : List Text} {t : RType} {met all : List Key} (x : Start) → beginning w s ms ≡ Some (x, []) → Leads w (view s) x [] met t → all ≡ joined (list_of a) met → Leads w v (via a s ms) [] all t
 through {t} {met} x e d is = elsewhere x [] met [] t e d whole is
 
 -- a type and a name behind it
-pub one_behind : {w : World} {v : Viewpoint} {a : Option Key} {s : Scope} {ms : List Text} {n : Text} {t u : RType} {met all : List Key} (x : Start) → beginning w s ms ≡ Some (fixed t, n ∷ []) → behind w (view s) t n ≡ Some x → Leads w (view s) x [] met u → all ≡ list_of a ++ met ++ [] → Leads w v (via a s ms) [] all u
+pub one_behind : {w : World} {v : Viewpoint} {a : Option Key} {s : Scope} {ms : List Text} {n : Text} {t u : RType} {met all : List Key} (x : Start) → beginning w s ms ≡ Some (fixed t, n ∷ []) → behind w (view s) t n ≡ Some x → Leads w (view s) x [] met u → all ≡ joined (list_of a) met → Leads w v (via a s ms) [] all u
 one_behind {n} {t} {u} {met} x e b d is = elsewhere (fixed t) (n ∷ []) met [] u e (further x b d) whole is
 
 -- what has no beginning means nothing

@@ -1,10 +1,10 @@
 -- A written type means at most one type.
-use Rattle.std.proofs.Common.{◌≡◌, List, ◌++◌, Option, Some, refl, sym, ap, ap₂, subst, ◌∙◌}
+use Rattle.std.proofs.Common.{◌≡◌, List, Option, Some, refl, sym, ap, ap₂, subst, ◌∙◌}
 use Rattle.evo_base.specs.declared.key.Key.{Key}
 use Rattle.evo_resolved.specs.declared.resolved_type.RType.{RType}
 use Rattle.evo_names.specs.Listed.{Text, World, list_of}
 use Rattle.evo_names.specs.Seen.{Viewpoint}
-use Rattle.evo_names.specs.Written.{Start, fixed, view, Leads, whole, further, elsewhere}
+use Rattle.evo_names.specs.Written.{Start, fixed, view, Leads, whole, further, elsewhere, joined}
 
 pair : {o : Option (Start × List Text)} {p q : Start × List Text} → o ≡ Some p → o ≡ Some q → p ≡ q
 pair e f = cc
@@ -22,4 +22,4 @@ module _ (w : World) where
       let here = subst (λ (i : Start). Leads w (view s) i rest firsts r) (sym start) (subst (λ (l : List Text). Leads w (view s) y l firsts r) (sym names) h) in
       let one = one_meaning d here in
       let two = one_meaning f (subst (λ (i : RType). Leads w v (fixed i) ns laters z) (sym one.1) k) in
-      (is ∙ ap₂ (λ (p q : List Key). list_of a ++ p ++ q) one.0 two.0 ∙ sym says, two.1)
+      (is ∙ ap₂ (λ (p q : List Key). joined (joined (list_of a) p) q) one.0 two.0 ∙ sym says, two.1)

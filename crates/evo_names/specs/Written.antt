@@ -1,5 +1,6 @@
 -- What a written type means: the type to which its names lead, and the `typealias`es that they meet on the way. What leads to itself means nothing.
 use Rattle.std.specs.Prelude.{◌≡◌, ℕ, ◌+◌, List, [], ◌∷◌, ◌++◌, filter, Option, Some, None, Bool, true, false, not, ◌&&◌, ◌||◌, codes, nat_lt, if◌then◌else◌}
+use Rattle.std.specs.List.{list_any}
 use Rattle.std.specs.Option.{option_map, option_or, option_and_then, option_map_or}
 use Rattle.evo_base.specs.Names.{position_of}
 use Rattle.evo_base.specs.declared.key.Key.{Key}
@@ -8,7 +9,7 @@ use Rattle.evo_tree.specs.declared.declaration.DeclKind.TheOpen as de
 use Rattle.evo_resolved.specs.declared.resolved_type.RType.{RType}
 use Rattle.evo_resolved.specs.declared.resolved_type.RType.TheVariants as ty
 use Rattle.evo_names.specs.Listed.{Text, Kind, World, Declaration, list_of}
-use Rattle.evo_names.specs.Meets.{same_name}
+use Rattle.evo_names.specs.Meets.{same_name, same_names}
 use Rattle.evo_names.specs.Seen.{Level, rank, lesser, is_public, public_level, written_level, Viewpoint}
 use Rattle.evo_names.specs.Heads.{Head, named, qualified, is_protocol, first_some, declaration_of, lineage, closure, conformances, is_among, members, shown, sees}
 use Rattle.evo_names.specs.Keys.{own_key}
@@ -163,15 +164,33 @@ unfoldable pub beginning : World → Scope → List Text → Option (Start × Li
 beginning w s [] = None
 beginning w s (n ∷ ns) = option_or (option_map (λ t. (t, ns)) (found_plain w s n)) (found_qualified w s n ns)
 
+-- ---- the `typealias`es that are met
+
+-- a `typealias` is known by its module, its context and its name
+abbrev pub same_alias : Key → Key → Bool
+same_alias a b = same_name a.module b.module && (same_names a.context b.context && same_name a.base b.base)
+
+abbrev pub is_met : Key → List Key → Bool
+is_met k ks = list_any (λ x. same_alias k x) ks
+
+-- behind these, where it is none of them
+abbrev pub add_met : List Key → Key → List Key
+add_met ks k = if is_met k ks then ks else ks ++ k ∷ []
+
+-- these, and then each of the others that is not among them
+abbrev pub joined : List Key → List Key → List Key
+joined xs [] = xs
+joined xs (y ∷ ys) = joined (add_met xs y) ys
+
 -- ---- what names mean
 
--- From a start, names lead to a type, and meet these `typealias`es. Members of types are those that `w` has.
+-- From a start, names lead to a type, and meet these `typealias`es, each told once. Members of types are those that `w` has.
 pub data Leads (w : World) : Viewpoint → Start → List Text → List Key → RType → Type 0 where
   whole : {v : Viewpoint} {t : RType} → Leads w v (fixed t) [] [] t
   -- a member of the type before it
   further : {v : Viewpoint} {t u : RType} {n : Text} {ns : List Text} {found : List Key} (x : Start) → behind w v t n ≡ Some x → Leads w v x ns found u → Leads w v (fixed t) (n ∷ ns) found u
   -- what is written in another place, and the names behind that
-  elsewhere : {v : Viewpoint} {a : Option Key} {s : Scope} {ms ns : List Text} {met : List Key} {u : RType} (x : Start) (rest : List Text) (first later : List Key) (t : RType) → beginning w s ms ≡ Some (x, rest) → Leads w (view s) x rest first t → Leads w v (fixed t) ns later u → met ≡ list_of a ++ first ++ later → Leads w v (via a s ms) ns met u
+  elsewhere : {v : Viewpoint} {a : Option Key} {s : Scope} {ms ns : List Text} {met : List Key} {u : RType} (x : Start) (rest : List Text) (first later : List Key) (t : RType) → beginning w s ms ≡ Some (x, rest) → Leads w (view s) x rest first t → Leads w v (fixed t) ns later u → met ≡ joined (joined (list_of a) first) later → Leads w v (via a s ms) ns met u
 
 -- what is written in a scope means a type
 abbrev pub Means : World → Scope → List Text → List Key → RType → Type 0

@@ -1,0 +1,4 @@
+pub mod Equal
+pub mod AmongCandidates
+pub mod Unwritten
+pub mod DeclaredAll

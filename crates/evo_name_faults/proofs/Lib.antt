@@ -1,0 +1,4 @@
+pub mod Firsts
+pub mod TakenNames
+pub mod UnknownNames
+pub mod HeaderFaults

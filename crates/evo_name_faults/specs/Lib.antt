@@ -1,0 +1,3 @@
+pub mod Twice
+pub mod Unknown
+pub mod Others
