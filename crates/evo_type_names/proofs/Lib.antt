@@ -1,3 +1,0 @@
-pub mod Everything
-pub mod Groups
-pub mod Bases
