@@ -13,7 +13,7 @@ use Rattle.evo_driver.specs.declared.stop.Refusal.{Refusal}
 use Rattle.evo_driver.specs.declared.stop.Refusal.TheVariants as refusal
 use Rattle.evo_driver.specs.Answer.{Answer, refused_answer}
 use Rattle.evo_driver.specs.Top.{GivesResult, WritesAll, Receives, Fails}
-use Rattle.evo_machine.proofs.Sinks.{Appends-then}
+use Rattle.evo_runs.proofs.Sinks.{Appends-then}
 
 pub Appends-none : (old : Option (List ℕ)) → Appends old old []
 Appends-none None = refl

@@ -15,7 +15,7 @@ use Rattle.evo_first_form.specs.Interface.{interface_of}
 use Rattle.evo_first_form.specs.Rules.{BreaksNoRule, report_of}
 use Rattle.evo_iface.specs.Text.{interface_text}
 use Rattle.evo_front.specs.Texts.{file_limit, interface_limit, IsLibraryText, IsClientText, IsUnbuiltLibrary, IsUnbuiltClient}
-use Rattle.evo_build.specs.Meaning.{Ran, Ending, done, spent, stuck, run_of}
+use Rattle.evo_first_code.specs.Meaning.{Ran, Ending, done, spent, stuck, run_of}
 use Rattle.evo_base.specs.Content.{ReadsUpTo}
 use Rattle.evo_words.specs.declared.words.Job.{Job}
 use Rattle.evo_words.specs.Words.{IsEvolve}

@@ -1,11 +1,11 @@
 -- The machine's run and the answer of the source's.
 use Rattle.std.proofs.Common.{◌≡◌, ℕ, List, [], codes, refl}
-use Rattle.evo_machine.specs.declared.image.Function.{Function}
-use Rattle.evo_machine.specs.declared.machine.End.{End}
-use Rattle.evo_machine.specs.declared.machine.End.TheVariants.{Done, Budget}
-use Rattle.evo_machine.specs.Machine.{Executes}
-use Rattle.evo_build.specs.Meaning.{Ran, Ending, done, spent, stuck}
-use Rattle.evo_build.specs.Works.{DoesResult, EndsResult}
+use Rattle.evo_code.specs.declared.image.Image.{Image}
+use Rattle.evo_execution.specs.declared.end.End.{End}
+use Rattle.evo_execution.specs.declared.end.End.TheVariants.{Done, Budget}
+use Rattle.evo_execution.specs.Execution.{Executes}
+use Rattle.evo_first_code.specs.Meaning.{Ran, Ending, done, spent, stuck}
+use Rattle.evo_first_code.specs.Works.{DoesResult, EndsResult}
 use Rattle.evo_driver.specs.declared.status.Status.TheVariants as status
 use Rattle.evo_driver.specs.declared.reply.Reply.{Reply}
 use Rattle.evo_driver.specs.Top.{IsNoFault, Replies}
@@ -18,17 +18,17 @@ EndIs done e = e ≡ Done
 EndIs spent e = e ≡ Budget
 EndIs stuck e = ⊥
 
-pub record Executed (image : List Function) (ticks : ℕ) (out : List ℕ) (ending : Ending) : Type 0 where
+pub record Executed (image : Image) (ticks : ℕ) (out : List ℕ) (ending : Ending) : Type 0 where
   pub end : End
   pub is : EndIs ending end
   pub run : Executes image ticks (record { out = out; ending = end })
 
-executed-as : (image : List Function) (ticks : ℕ) (out : List ℕ) (e : Ending) → EndsResult image ticks out e → Executed image ticks out e
+executed-as : (image : Image) (ticks : ℕ) (out : List ℕ) (e : Ending) → EndsResult image ticks out e → Executed image ticks out e
 executed-as image ticks out done h = record { end = Done; is = refl; run = h }
 executed-as image ticks out spent h = record { end = Budget; is = refl; run = h }
 executed-as image ticks out stuck h = absurd h
 
-pub executed : (image : List Function) (ticks : ℕ) (ran : Ran) → DoesResult image ticks ran → Executed image ticks ran.out ran.ending
+pub executed : (image : Image) (ticks : ℕ) (ran : Ran) → DoesResult image ticks ran → Executed image ticks ran.out ran.ending
 executed image ticks ran h = executed-as image ticks ran.out ran.ending h
 
 -- the answer of a run, with what it writes

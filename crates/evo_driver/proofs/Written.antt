@@ -1,7 +1,7 @@
 -- No answer of a job has the status of a failed write.
 use Rattle.std.proofs.Common.{◌≡◌, ℕ, List, Option, sym, ◌∙◌, ap, inl, inr}
 use Rattle.evo_base.specs.States.{FilesState}
-use Rattle.evo_build.specs.Meaning.{Ending, done, spent, stuck}
+use Rattle.evo_first_code.specs.Meaning.{Ending, done, spent, stuck}
 use Rattle.evo_driver.specs.declared.status.Status.TheVariants as status
 use Rattle.evo_driver.specs.declared.stop.Refusal.TheVariants as refusal
 use Rattle.evo_driver.specs.Answer.{Answer, Answers, EndsWith}

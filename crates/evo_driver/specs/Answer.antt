@@ -8,7 +8,7 @@ use Rattle.evo_first_form.specs.declared.Function.{Function}
 use Rattle.evo_first_form.specs.declared.Client.{Client}
 use Rattle.evo_first_form.specs.Interface.{interface_of}
 use Rattle.evo_first_form.specs.Rules.{report_of}
-use Rattle.evo_build.specs.Meaning.{Ran, Ending, done, spent, stuck, run_of}
+use Rattle.evo_first_code.specs.Meaning.{Ran, Ending, done, spent, stuck, run_of}
 use Rattle.evo_words.specs.declared.words.Job.{Job}
 use Rattle.evo_words.specs.Words.{IsEvolve}
 use Rattle.evo_driver.specs.declared.status.Status.{Status}

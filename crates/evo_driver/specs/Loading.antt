@@ -6,12 +6,13 @@ use Rattle.evo_base.specs.States.{FilesState}
 use Rattle.evo_first_form.specs.declared.Function.{Function}
 use Rattle.evo_first_form.specs.Interface.{interface_of}
 use Rattle.evo_first_form.specs.Accepted.{IsAcceptedLibrary, IsAcceptedInterface, IsAcceptedClient}
+use Rattle.evo_first_form.specs.Facts.{LibraryFacts, ClientFacts}
 use Rattle.evo_first_form.specs.Rules.{BreaksNoRule, removed}
 use Rattle.evo_front.specs.declared.library.AcceptedLibrary.{AcceptedLibrary}
 use Rattle.evo_front.specs.Texts.{file_limit}
-use Rattle.evo_machine.specs.declared.image.Function.{Function as MachineFunction}
-use Rattle.evo_build.specs.Meaning.{Ran, run_of}
-use Rattle.evo_build.specs.Works.{DoesResult}
+use Rattle.evo_code.specs.declared.image.Image.{Image}
+use Rattle.evo_first_code.specs.Meaning.{Ran, run_of}
+use Rattle.evo_first_code.specs.Works.{HaveFacts, DoesResult}
 use Rattle.evo_words.specs.declared.words.Job.{Job}
 use Rattle.evo_driver.specs.declared.stop.Input.{Input}
 use Rattle.evo_driver.specs.declared.stop.Refusal.{Refusal}
@@ -93,6 +94,9 @@ pub record Builds (loaded : Loaded) : Type 0 where
   pub interface : IsAcceptedInterface loaded.libraries.interface
   pub client : IsAcceptedClient loaded.libraries.interface loaded.client
   pub library : IsAcceptedLibrary loaded.libraries.interface.name loaded.libraries.functions
+  pub bodies : HaveFacts loaded.libraries.interface.functions
+  pub prints : ClientFacts loaded.client
+  pub functions : LibraryFacts loaded.libraries.functions
   pub keeps : BreaksNoRule loaded.libraries.interface (interface_of loaded.libraries.interface.name loaded.libraries.functions)
 
 -- the run of the client's source with the new library's functions and the old bodies that it copied
@@ -100,5 +104,5 @@ abbrev pub run_with : Loaded → ℕ → Ran
 run_with loaded ticks = run_of (record { old = loaded.libraries.interface.functions; new = loaded.libraries.functions }) loaded.client.prints ticks
 
 -- the image does what the client's source does, for every number of ticks
-abbrev pub IsBuiltFrom : Loaded → List MachineFunction → Type 0
+abbrev pub IsBuiltFrom : Loaded → Image → Type 0
 IsBuiltFrom loaded image = (ticks : ℕ) → DoesResult image ticks (run_with loaded ticks)

@@ -3,9 +3,9 @@ use Rattle.std.specs.Prelude.{◌≡◌, ◌<◌, ◌⊎◌, ℕ, List, [], code
 use Rattle.evo_base.specs.Causes.{CountRose}
 use Rattle.evo_base.specs.Content.{Appends}
 use Rattle.evo_base.specs.States.{FilesState, SinkState}
-use Rattle.evo_machine.specs.declared.machine.End.{End}
-use Rattle.evo_machine.specs.declared.machine.End.TheVariants as ending
-use Rattle.evo_machine.specs.Runs.{MachineState}
+use Rattle.evo_execution.specs.declared.end.End.{End}
+use Rattle.evo_execution.specs.declared.end.End.TheVariants as ending
+use Rattle.evo_runs.specs.Runs.{MachineState}
 use Rattle.evo_driver.specs.declared.status.Status.{Status}
 use Rattle.evo_driver.specs.declared.status.Status.TheVariants as status
 use Rattle.evo_driver.specs.declared.reply.ReplyError.{ReplyError}
@@ -58,10 +58,11 @@ Leaves status.NotWritten bench = bench ≡ None
 Leaves status.Memory bench = bench ≡ None
 Leaves status.TooLong bench = bench ≡ None
 
--- an end that is no fault of the machine
+-- an end that is neither a trap nor a fault of the machine
 abbrev pub IsNoFault : End → Type 0
 IsNoFault ending.Done = Unit {0}
 IsNoFault ending.Budget = Unit {0}
+IsNoFault (ending.Trap kind) = ⊥
 IsNoFault (ending.Fault kind function at) = ⊥
 
 -- a reply with the text and the status of an answer, and the machine that its status asks for
@@ -74,6 +75,7 @@ pub record Replies (a : Answer) (reply : Reply) : Type 0 where
 abbrev pub EndsResult : End → Reply → Type 0
 EndsResult ending.Done reply = Replies (record { out = []; err = []; status = status.Done }) reply
 EndsResult ending.Budget reply = Replies (record { out = []; err = codes "out of ticks\n"; status = status.OutOfTicks }) reply
+EndsResult (ending.Trap kind) reply = ⊥
 EndsResult (ending.Fault kind function at) reply = ⊥
 
 -- What a job gives before its text on `err` is written: means is the fact that an answer is the job's, old and new are the states of `out`.

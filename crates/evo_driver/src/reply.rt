@@ -8,7 +8,7 @@ ghost use Rattle.evo_driver.specs.declared.reply.ReplyError.TheVariants.{Memory,
 use crate::status::Status;
 use crate::stop::Refusal;
 use evo_base::{Failed, Name};
-use evo_machine::Machine;
+use evo_runs::Machine;
 use evo_tree::SourceFault;
 use std::alloc::{AllocError, Global};
 

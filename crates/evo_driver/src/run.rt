@@ -1,6 +1,7 @@
 //! Builds, links and runs what was loaded.
 
 ghost use Rattle.std.specs.Prelude.{◌≡◌, IfOk, Some, Ok};
+ghost use Rattle.evo_execution.specs.Loaded.{IsLoaded};
 ghost use Rattle.evo_driver.specs.Loading.{IsBuiltFrom, Builds, run_with};
 ghost use Rattle.evo_driver.specs.Top.{GivesResult, EndsResult, IsNoFault};
 ghost use Rattle.evo_driver.specs.Answer.{AnswersRun};
@@ -9,14 +10,17 @@ use crate::load::Loaded;
 use crate::reply::{Reply, ReplyError};
 use crate::status::Status;
 use evo_base::Sink;
-use evo_build::{LinkFault, build_client, build_library, link};
-use evo_machine::{End, Image, Machine, RunStop};
+use evo_code::Image;
+use evo_execution::End;
+use evo_first_code::{LinkFault, build_client, build_library, link};
+use evo_runs::{Machine, RunStop};
 use std::alloc::{AllocError, Global};
 
 // The image of the new library's object and the client's, which was built from the old interface.
 fn build(alloc: Global, loaded: &Loaded) -> Result<Image, AllocError>
     requires { Builds loaded.now }
-    ensures { IfOk result (λ image. IsBuiltFrom loaded.now image) }
+    ensures loads { IfOk result (λ image. IsLoaded image) }
+    ensures does { IfOk result (λ image. IsBuiltFrom loaded.now image) }
 {
     let library = &loaded.libraries.interface.name;
     let functions = loaded.libraries.functions.as_slice();
@@ -39,6 +43,7 @@ fn ended(alloc: Global, end: End, machine: Machine) -> Result<Reply, AllocError>
     let (text, status) = match end {
         End::Done => (Vec::new(alloc), Status::Done),
         End::Budget => (b"out of ticks\n".to_vec(alloc)?, Status::OutOfTicks),
+        End::Trap(_) => unreachable!(),
         End::Fault { .. } => unreachable!(),
     };
     Ok(Reply {

@@ -9,7 +9,7 @@ use crate::job::perform;
 use crate::reply::ReplyError;
 use crate::status::Status;
 use evo_base::{Files, Name, Sink};
-use evo_machine::Machine;
+use evo_runs::Machine;
 use std::alloc::Global;
 
 /// Does what the words ask for, over these files and sinks.

@@ -9,8 +9,8 @@ use Rattle.evo_names.specs.Listed.{Text}
 use Rattle.evo_first_form.specs.declared.Print.{Print}
 use Rattle.evo_first_form.specs.declared.Term.{Term}
 use Rattle.evo_first_form.specs.declared.Term.TheVariants.{Integer, Call}
-use Rattle.evo_build.specs.Meaning as first
-use Rattle.evo_build.specs.Meaning.{Program, Body, Evaluated}
+use Rattle.evo_first_code.specs.Meaning as first
+use Rattle.evo_first_code.specs.Meaning.{Program, Body, Evaluated}
 use Rattle.evo_meaning.specs.Values.{Value}
 use Rattle.evo_meaning.specs.Runs.{State, Outcome, goes, stops, out_of_ticks, stuck, Run, pure, ◌>>=◌, go_on, on_store, ticked, tick, or_stuck, each, within, set_environment}
 use Rattle.evo_meaning.specs.Programs.{MixedProgram, Side, static_implementation, tables_of}

@@ -11,8 +11,8 @@ use Rattle.evo_first_form.specs.declared.Declaration.{Declaration}
 use Rattle.evo_first_form.specs.declared.Print.{Print}
 use Rattle.evo_first_form.specs.declared.Term.{Term}
 use Rattle.evo_first_form.specs.Copies.{copied_body}
-use Rattle.evo_build.specs.Meaning as first
-use Rattle.evo_build.specs.Meaning.{Program, Body}
+use Rattle.evo_first_code.specs.Meaning as first
+use Rattle.evo_first_code.specs.Meaning.{Program, Body}
 use Rattle.evo_meaning.specs.Keys.{same_key, look_up}
 use Rattle.evo_meaning.specs.Programs.{Side, client_side, library_side, Implementation, implementation_by, static_implementation}
 use Rattle.evo_meaning.proofs.SameKey.{one_key, same_key_refl}

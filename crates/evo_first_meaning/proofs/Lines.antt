@@ -1,6 +1,6 @@
 -- Both meanings print the same lines.
 use Rattle.std.proofs.Common.{◌≡◌, ℕ, List, [], ◌∷◌, map, Some, refl, pos, append_assoc}
-use Rattle.evo_build.specs.Meaning.{line_of}
+use Rattle.evo_first_code.specs.Meaning.{line_of}
 use Rattle.evo_meaning.specs.Values.{Value, int}
 use Rattle.evo_meaning.specs.Operators.{line}
 

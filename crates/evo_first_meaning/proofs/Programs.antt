@@ -5,8 +5,8 @@ use Rattle.evo_resolved.specs.declared.expression.RExpr.TheVariants as x
 use Rattle.evo_resolved.specs.declared.statement.RBlock.{RBlock}
 use Rattle.evo_names.specs.Listed.{Text}
 use Rattle.evo_first_form.specs.declared.Print.{Print}
-use Rattle.evo_build.specs.Meaning as first
-use Rattle.evo_build.specs.Meaning.{Program, Evaluated, Ran, line_of, after_line, prints_of}
+use Rattle.evo_first_code.specs.Meaning as first
+use Rattle.evo_first_code.specs.Meaning.{Program, Evaluated, Ran, line_of, after_line, prints_of}
 use Rattle.evo_meaning.specs.Keys.{same_key, look_up}
 use Rattle.evo_meaning.specs.Values.{Value}
 use Rattle.evo_meaning.specs.Runs.{State, Outcome, goes, stops, Run, pure, ◌>>=◌, go_on, on_store, tick, write}

@@ -2,7 +2,7 @@
 use Rattle.std.specs.Prelude.{◌≡◌, ℕ, List}
 use Rattle.evo_names.specs.Listed.{Text}
 use Rattle.evo_first_form.specs.declared.Print.{Print}
-use Rattle.evo_build.specs.Meaning.{Program, Ending, done, spent, stuck, Ran, run_of}
+use Rattle.evo_first_code.specs.Meaning.{Program, Ending, done, spent, stuck, Ran, run_of}
 use Rattle.evo_meaning.specs.Runs as run
 use Rattle.evo_meaning.specs.Bodies as body
 use Rattle.evo_meaning.specs.Bodies.{End, Result}

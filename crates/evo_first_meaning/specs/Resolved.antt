@@ -28,7 +28,7 @@ use Rattle.evo_first_form.specs.declared.Declaration.{Declaration}
 use Rattle.evo_first_form.specs.declared.Print.{Print}
 use Rattle.evo_first_form.specs.declared.Term.{Term}
 use Rattle.evo_first_form.specs.declared.Term.TheVariants.{Integer, Call}
-use Rattle.evo_build.specs.Meaning.{Program}
+use Rattle.evo_first_code.specs.Meaning.{Program}
 use Rattle.evo_meaning.specs.Programs.{MixedProgram}
 
 abbrev pub at : Place

@@ -6,7 +6,7 @@
 
 use evo_base::{DiskFiles, Files, Name, Sink, StdSink};
 use evo_driver::{Status, swevo};
-use evo_machine::Machine;
+use evo_runs::Machine;
 use std::alloc::{AllocError, Global};
 use std::env::FillError;
 use std::process::ExitCode;

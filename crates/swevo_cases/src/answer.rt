@@ -6,7 +6,8 @@ use crate::setting::{Case, files_of, is_file, name_of, sink_of, words_of};
 use crate::text::bytes_of;
 use evo_base::{Files, MemFiles, MemSink, Name, Sink};
 use evo_driver::{Status, swevo};
-use evo_machine::{End, Machine};
+use evo_execution::End;
+use evo_runs::Machine;
 use std::alloc::Global;
 
 /// The top call, with the machine that it leaves. What it promises is left out here, since nothing more is said of it.

@@ -1,5 +1,5 @@
 use Rattle.std.proofs.Common.{◌≡◌, List, ℕ, refl, inl, inr, subst}
-use Rattle.evo_build.specs.Meaning.{Ran, run_of}
+use Rattle.evo_first_code.specs.Meaning.{Ran, run_of}
 use Rattle.evo_first_form.specs.declared.Interface.{Interface}
 use Rattle.evo_first_form.specs.Rules.{removed_lines}
 use Rattle.evo_driver.specs.Answer.{Answer, AnswersRun, refused_answer, report_answer, unread_answer}

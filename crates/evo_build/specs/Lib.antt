@@ -1,4 +1,0 @@
-pub mod Meaning
-pub mod Objects
-pub mod Works
-pub mod Linking

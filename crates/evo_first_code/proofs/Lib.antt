@@ -1,0 +1,9 @@
+pub mod Steps
+pub mod Simulates
+pub mod Images
+pub mod Loading
+pub mod Links
+pub mod Texts
+pub mod Parts
+pub mod Exports
+pub mod KeySymbols

@@ -1,0 +1,5 @@
+pub mod Meaning
+pub mod Objects
+pub mod Works
+pub mod Linking
+pub mod Keys
