@@ -1,4 +1,4 @@
--- What is answered of headers is a fault, and where nothing is answered the others are left.
+-- What is answered of single declarations is a fault, and where nothing is answered the others are left.
 use Rattle.std.proofs.Common.{◌≡◌, Option, Some, None, MatchOption, sym, subst}
 use Rattle.evo_tree.specs.declared.module.SourceFault.{SourceFault}
 use Rattle.evo_base.specs.declared.place.Place.{Place}
@@ -9,14 +9,15 @@ use Rattle.evo_declarations.proofs.PastLimits.{past_limits}
 use Rattle.evo_names.specs.Listed.{World}
 use Rattle.evo_names.specs.Faults.{IsFault}
 use Rattle.evo_names.specs.Faults as faults
-use Rattle.evo_name_faults.specs.Others.{IsOther, OnlyOthers, IsFaultAt}
-use Rattle.evo_name_faults.specs.Others as others
+use Rattle.evo_name_faults.specs.Others.{IsFaultAt, OnlyOthers}
+use Rattle.evo_name_faults.specs.Left.{IsLeft, OnlyLeft}
+use Rattle.evo_name_faults.specs.Left as others
 use Rattle.evo_name_faults.specs.Twice.{taken_name}
 use Rattle.evo_name_faults.specs.Unknown.{unknown_name}
 use Rattle.evo_name_faults.proofs.TakenNames.{NoneTaken, taken_none}
 use Rattle.evo_name_faults.proofs.UnknownNames.{NoneUnknown, unknown_none}
 
-left_by : (w : World) → past_limit w.own ≡ None → NoneUnknown w → NoneTaken w → (k : FaultKind) (p : Place) → IsFault w k p → IsOther w p
+left_by : (w : World) → past_limit w.own ≡ None → NoneUnknown w → NoneTaken w → (k : FaultKind) (p : Place) → IsFault w k p → IsLeft w p
 left_by w within unknown taken k p (faults.meet m) = others.meet m
 left_by w within unknown taken k p (faults.taken {p = q} {n} i d at top named test) = absurd (taken.top i d q n at top named test)
 left_by w within unknown taken k p (faults.alias {p = q} {n} i d at is named test) = absurd (taken.aliases i d q n at is named test)
@@ -33,8 +34,11 @@ left_by w within unknown taken k p (faults.parameters i d h q at has is) = absur
 left_by w within unknown taken k p (faults.generic_parameters i d g at is) = absurd (past_limits.none w g.name.place within (faults.generic_parameters i d g at is))
 left_by w within unknown taken k p (faults.payload {c} {ps} i d q at is here) = absurd (past_limits.none w (faults.payload_place q) within (faults.payload i d q at is here))
 
-pub left : (w : World) → past_limit w.own ≡ None → unknown_name w ≡ None → taken_name w ≡ None → OnlyOthers w
+pub left : (w : World) → past_limit w.own ≡ None → unknown_name w ≡ None → taken_name w ≡ None → OnlyLeft w
 left w within unknown taken = λ k p f. left_by w within (unknown_none w unknown) (taken_none w taken) k p f
 
-pub told : (w : World) (o : Option SourceFault) (k : FaultKind) (p : Place) → o ≡ Some (record { kind = k; place = p }) → IsFault w k p → MatchOption o (OnlyOthers w) (IsFaultAt w)
-told w o k p is f = subst (λ (x : Option SourceFault). MatchOption x (OnlyOthers w) (IsFaultAt w)) (sym is) f
+pub told : (w : World) (o : Option SourceFault) (k : FaultKind) (p : Place) → o ≡ Some (record { kind = k; place = p }) → IsFault w k p → MatchOption o (OnlyLeft w) (IsFaultAt w)
+told w o k p is f = subst (λ (x : Option SourceFault). MatchOption x (OnlyLeft w) (IsFaultAt w)) (sym is) f
+
+pub answered : (w : World) (o : Option SourceFault) (k : FaultKind) (p : Place) → o ≡ Some (record { kind = k; place = p }) → IsFault w k p → MatchOption o (OnlyOthers w) (IsFaultAt w)
+answered w o k p is f = subst (λ (x : Option SourceFault). MatchOption x (OnlyOthers w) (IsFaultAt w)) (sym is) f

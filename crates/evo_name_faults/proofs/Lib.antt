@@ -2,3 +2,8 @@ pub mod Firsts
 pub mod TakenNames
 pub mod UnknownNames
 pub mod HeaderFaults
+pub mod TypeKeys
+pub mod Spread
+pub mod PlainKeys
+pub mod SecondConformances
+pub mod OwnMeetings

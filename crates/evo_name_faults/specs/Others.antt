@@ -1,27 +1,24 @@
--- The faults of names that are told by more than one declaration with what names find.
-use Rattle.std.specs.Prelude.{◌≡◌, ℕ, List, ◌++◌, length, Some, None, IsTrue}
+-- The faults of names that need what a client sees of the import, or what written types mean.
+use Rattle.std.specs.Prelude.{◌≡◌, ℕ, ◌<◌, ◌≤◌, List, ◌++◌, length, Some}
 use Rattle.evo_base.specs.declared.place.Place.{Place}
 use Rattle.evo_base.specs.declared.key.Key.{Key}
 use Rattle.evo_base.specs.declared.fault_kind.FaultKind.{FaultKind}
 use Rattle.evo_tree.specs.declared.name.TypeName.{TypeName}
 use Rattle.evo_tree.specs.declared.module.SourceFault.{SourceFault}
 use Rattle.evo_resolved.specs.declared.resolved_type.RType.{RType}
-use Rattle.evo_names.specs.Listed.{Listing, World, Declaration, own_declarations}
-use Rattle.evo_names.specs.Meets.{IsTwice}
-use Rattle.evo_names.specs.Heads.{conformances, is_among}
+use Rattle.evo_names.specs.Listed.{World, Declaration, own_declarations}
+use Rattle.evo_names.specs.Meets.{MeetAt}
 use Rattle.evo_names.specs.Keys.{declared_names}
 use Rattle.evo_names.specs.Written.{Means}
-use Rattle.evo_names.specs.Faults.{At, Before, Conforms, IsFault, is_type_key, scope_of, seen_names, types_of}
+use Rattle.evo_names.specs.Faults.{At, IsFault, scope_of, seen_names, types_of}
 
 -- it is a fault of the names of a module
 abbrev pub IsFaultAt : World → SourceFault → Type 0
 IsFaultAt w f = IsFault w f.kind f.place
 
--- Two declarations meet, a conformance is there twice, or a written type means nothing.
+-- A declaration of the module meets one that a client sees of the import, or a written type means nothing.
 pub data IsOther (w : World) : Place → Type 0 where
-  meet : {p : Place} → IsTwice (seen_names w ++ declared_names w) (length (seen_names w)) p → IsOther w p
-  conformance : {k p : Key} {d i e j : ℕ} {t u : TypeName} → IsTrue (is_type_key w k) → Conforms w k p d i t → Conforms w k p e j u → Before d i e j → IsOther w u.place
-  foreign : {k p : Key} {d i : ℕ} {t : TypeName} (m : Listing) → w.imported ≡ Some m → IsTrue (is_type_key w k) → IsTrue (is_among p (conformances (record { own = m; imported = None }) k)) → Conforms w k p d i t → IsOther w t.place
+  meet : (i j : ℕ) → i < length (seen_names w) → length (seen_names w) ≤ j → (m : MeetAt (seen_names w ++ declared_names w) i j) → IsOther w m.later.place
   written : (i j : ℕ) (d : Declaration) (t : TypeName) → At (own_declarations w) i d → At (types_of d.entry.kind) j t → ((met : List Key) (u : RType) → Means w (scope_of d) t.names met u → ⊥) → IsOther w t.place
 
 -- each fault is one of those

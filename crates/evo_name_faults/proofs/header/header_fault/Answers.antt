@@ -1,20 +1,15 @@
-use Rattle.std.proofs.Common.{sym}
 use Rattle.evo_base.specs.declared.fault_kind.FaultKind.TheVariants as kind
-use Rattle.evo_declarations.proofs.PastLimits.{past_limits}
 use Rattle.evo_declarations.specs.Worlds.{world_of}
-use Rattle.evo_name_faults.proofs.TakenNames.{taken_some}
-use Rattle.evo_name_faults.proofs.UnknownNames.{unknown_some}
-use Rattle.evo_name_faults.proofs.HeaderFaults.{left, told}
+use Rattle.evo_names.specs.Keys.{declared_names}
+use Rattle.evo_name_faults.proofs.HeaderFaults.{answered}
+use Rattle.evo_name_faults.proofs.OwnMeetings.{second_is, met_is, others_left, second_told, none_told, met_told, unmet_told}
 use Rattle.evo_name_faults.proofs.header.header_fault.Goals as goal
 
-pub returns-in-Some : goal.returns-in-Some
-returns-in-Some c = told (world_of c.args.world) c.fault.result kind.TooMany c.in-Some.place c.fault.ensures (past_limits.some (world_of c.args.world) c.in-Some.place (sym c.in-Some.ensures))
+pub returns-in-Some-2 : goal.returns-in-Some-2
+returns-in-Some-2 c = answered (world_of c.args.world) c.fault.result kind.Twice c.in-Some-2.place c.fault.ensures (second_is (world_of c.args.world) c.in-Some-2.place (second_told (world_of c.args.world) c.in_ok-place-in-None.field-0 c.in-Some-2.place c.in-Some-2.is c.in_ok-place-in-None.ensures))
 
-pub returns-in-Some-unknown_name : goal.returns-in-Some-unknown_name
-returns-in-Some-unknown_name c = told (world_of c.args.world) c.fault-in-Some-unknown_name.result kind.Unknown c.in-Some-unknown_name.place c.fault-in-Some-unknown_name.ensures (unknown_some (world_of c.args.world) c.in-Some-unknown_name.place (sym c.in-Some-unknown_name.ensures))
+pub returns-in-Some-3 : goal.returns-in-Some-3
+returns-in-Some-3 c = answered (world_of c.args.world) c.fault-in-Some-3.result kind.Twice c.in-Some-3.place c.fault-in-Some-3.ensures (met_is (world_of c.args.world) c.in-Some-3.place (met_told (declared_names (world_of c.args.world)) c.in_ok-place-in-None-2.field-0 c.in-Some-3.place c.in-Some-3.is c.in_ok-place-in-None-2.ensures))
 
-pub returns-in-Some-taken_name : goal.returns-in-Some-taken_name
-returns-in-Some-taken_name c = told (world_of c.args.world) c.fault-in-Some-taken_name.result kind.Twice c.in-Some-taken_name.place c.fault-in-Some-taken_name.ensures (taken_some (world_of c.args.world) c.in-Some-taken_name.place (sym c.in-Some-taken_name.ensures))
-
-pub returns-in-None-taken_name : goal.returns-in-None-taken_name
-returns-in-None-taken_name c = left (world_of c.args.world) (sym c.in-None.ensures) (sym c.in-None-unknown_name.ensures) (sym c.in-None-taken_name.ensures)
+pub returns-in-None-3 : goal.returns-in-None-3
+returns-in-None-3 c = others_left (world_of c.args.world) c.in-None.ensures (none_told (world_of c.args.world) c.in_ok-place-in-None.field-0 c.in-None-2.is c.in_ok-place-in-None.ensures) (unmet_told (declared_names (world_of c.args.world)) c.in_ok-place-in-None-2.field-0 c.in-None-3.is c.in_ok-place-in-None-2.ensures)
