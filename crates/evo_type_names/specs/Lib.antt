@@ -1,0 +1,6 @@
+pub mod Starts
+pub mod Round
+pub mod Prefixes
+pub mod Aliases
+pub mod Known
+pub mod Resolving
