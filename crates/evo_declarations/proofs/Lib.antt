@@ -3,3 +3,4 @@ pub mod PastLimits
 pub mod Grouping
 pub mod ByGroup
 pub mod HeadsInGroups
+pub mod LanguageTypes

@@ -1,5 +1,5 @@
 -- The item past a limit is a fault, and there is no other.
-use Rattle.std.proofs.Common.{◌≡◌, ℕ, zero, suc, List, [], ◌∷◌, map, Option, Some, None, slice_get, refl, sym, ap, ap₂, subst, ◌∙◌}
+use Rattle.std.proofs.Common.{◌≡◌, ◌≤◌, ℕ, zero, suc, List, [], ◌∷◌, length, arith, map, Option, Some, None, slice_get, refl, sym, ap, ap₂, subst, ◌∙◌}
 use Rattle.std.specs.Option.{option_map, option_or}
 use Rattle.evo_base.specs.declared.place.Place.{Place}
 use Rattle.evo_base.specs.declared.fault_kind.FaultKind.TheVariants as kind
@@ -155,6 +155,17 @@ no_fault w p h (declarations d at) = h.count d.entry (entry_of w w.own.entries m
 no_fault w p h (parameters i d g q at has is) = no_parameter g q is (sym (header_kind d.entry.kind g has) ∙ h.each i d at)
 no_fault w p h (generic_parameters i d g at is) = no_generic_of d.entry.kind g is (h.each i d at)
 no_fault w p h (payload {c} {ps} i d q at is here) = no_value ps q here (sym (ap in_declaration is) ∙ h.each i d at)
+
+no_more : {A : Type 0} (xs : List A) (n : ℕ) → ((x : A) → slice_get xs n ≡ Some x → ⊥) → length xs ≤ n
+no_more [] n none = omega arith
+no_more (x ∷ xs) zero none = absurd (none x refl)
+no_more (x ∷ xs) (suc n) none = let le = no_more xs n none in omega (arith, le)
+
+-- a declaration of a module that is past no limit has few generic parameters
+pub few_generics : (m : Listing) (i : ℕ) (e : Entry) → past_limit m ≡ None → slice_get m.entries i ≡ Some e → length (generics_of e.kind) ≤ 4
+few_generics m i e none at =
+    let w : World = record { own = m; imported = None } in
+    no_more (generics_of e.kind) 4 (λ g is. no_generic_of e.kind g is ((within w none).each i (record { world = w; entry = e }) (at_of w m.entries i e at)))
 
 pub past_limits : PastLimit
 past_limits = record { some = some; none = λ w p none. no_fault w p (within w none) }

@@ -8,7 +8,7 @@ use Rattle.evo_declarations.specs.declared.listed.Within.{Within}
 use Rattle.evo_declarations.specs.declared.listed.Within.TheVariants as within
 use Rattle.evo_declarations.specs.declared.listed.Listed.{Listed}
 use Rattle.evo_declarations.specs.declared.listed.Listing.{Listing}
-use Rattle.evo_declarations.specs.declared.seen.TypeId.{TypeId}
+use Rattle.evo_declarations.specs.declared.type_id.TypeId.{TypeId}
 use Rattle.evo_declarations.specs.declared.seen.Viewpoint.{Viewpoint}
 use Rattle.evo_declarations.specs.declared.seen.Shown.{Shown}
 use Rattle.evo_names.specs.Listed as names

@@ -10,7 +10,8 @@ ghost use Rattle.evo_names.specs.Heads as heads;
 use crate::level::{Level, written_level};
 use crate::listed::{Listed, Within};
 use crate::names::Names;
-use crate::seen::{Shown, TypeId, Viewpoint, is_seen};
+use crate::seen::{Shown, Viewpoint, is_seen};
+use crate::type_id::TypeId;
 use crate::world::World;
 use evo_base::Name;
 use evo_tree::{DeclKind, NominalKind, TypeName};
@@ -37,7 +38,7 @@ pub fn top_shown<'a>(module: &'a [u8], listed: &Listed<'a>) -> Shown<'a>
 
 fn head_by<'a>(
     view: Viewpoint<'a>,
-    module: &'a [u8],
+    module: &'a Name,
     name: &[u8],
     listed: &Listed<'a>,
 ) -> Option<Head<'a>>
@@ -45,14 +46,11 @@ fn head_by<'a>(
 {
     match &listed.decl.kind {
         DeclKind::Nominal(kind, own, _, _) => {
-            if own.text.as_slice() != name || !is_seen(view, top_shown(module, listed)) {
+            if own.text.as_slice() != name || !is_seen(view, top_shown(module.as_slice(), listed)) {
                 return None;
             }
             Some(Head {
-                key: TypeId {
-                    module,
-                    base: own.text.as_slice(),
-                },
+                key: TypeId::of(module, &own.text),
                 kind: *kind,
                 level: written_level(listed),
             })
@@ -70,7 +68,7 @@ fn head_at<'a>(
     ensures { found_head result ≡ head_at_number (view_of view.entry) (module_view names.now) name.now number }
 {
     let listed = names.listing.entries.get(number)?;
-    head_by(view, names.listing.name.as_slice(), name, listed)
+    head_by(view, names.listing.name, name, listed)
 }
 
 /// The type or protocol of this name in a module. Of two of one name, which is a fault, the first one is meant.

@@ -12,6 +12,7 @@ mod limits;
 mod listed;
 mod names;
 mod seen;
+mod type_id;
 mod words;
 mod world;
 
@@ -23,6 +24,7 @@ pub use laws::past_limit;
 pub use level::{Level, is_less, is_public, lesser, written_level};
 pub use listed::{Listed, Listing, Within};
 pub use names::Names;
-pub use seen::{Shown, TypeId, Viewpoint, is_seen, same_type};
+pub use seen::{Shown, Viewpoint, is_seen, same_type};
+pub use type_id::TypeId;
 pub use words::{has_attribute, has_modifier};
 pub use world::{Home, World, alone};

@@ -1,16 +1,41 @@
 //! What is seen from where.
 
 ghost use Rattle.std.specs.Prelude.{◌≡◌};
+ghost use Rattle.std.specs.Str.{IsUtf8};
 ghost use Rattle.evo_declarations.specs.Views.{key_of_type, shown_of, types_of, view_of};
+ghost use Rattle.evo_names.specs.Heads.{type_key};
 ghost use Rattle.evo_names.specs.Seen as seen;
 
 use crate::level::{Level, is_private, is_public, lesser};
+use crate::type_id::TypeId;
+use evo_base::Name;
 
-/// A type or protocol at top level, by its module and its name.
-#[derive(Clone, Copy)]
-pub struct TypeId<'a> {
-    pub module: &'a [u8],
-    pub base: &'a [u8],
+impl<'a> TypeId<'a> {
+    /// The type or protocol of this name in a module.
+    pub fn of(module: &'a Name, base: &'a Name) -> TypeId<'a>
+        ensures { key_of_type result ≡ type_key «module».now base.now }
+    {
+        TypeId {
+            module: module.as_slice(),
+            base: base.as_slice(),
+        }
+    }
+
+    /// The name of the module.
+    pub fn module_text(self) -> &'a [u8]
+        ensures value { result.now ≡ self.entry.«module».now }
+        ensures utf8 { IsUtf8 result.now }
+    {
+        self.module
+    }
+
+    /// The name within the module.
+    pub fn base_text(self) -> &'a [u8]
+        ensures value { result.now ≡ self.entry.base.now }
+        ensures utf8 { IsUtf8 result.now }
+    {
+        self.base
+    }
 }
 
 /// Where one looks from: the module, and the type in whose braces or extensions one stands.

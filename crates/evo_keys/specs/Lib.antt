@@ -5,4 +5,3 @@ pub mod Owned
 pub mod Roots
 pub mod Texts
 pub mod Types
-pub mod Utf8

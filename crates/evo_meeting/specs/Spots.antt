@@ -9,7 +9,7 @@ use Rattle.evo_meeting.specs.declared.spot.Spot.{Spot}
 
 abbrev pub context_of : Context → List Text
 context_of (context.Module m) = m.now ∷ []
-context_of (context.Type m n) = m.now ∷ n.now ∷ []
+context_of (context.Type t) = t.module.now ∷ t.base.now ∷ []
 
 abbrev pub spot_view : Spot → DeclaredName
 spot_view s = record {

@@ -29,10 +29,10 @@ fn push_context(text: &mut Vec<u8>, context: Context<'_>) -> Result<(), AllocErr
     ensures { OnOk result (text.new.items ≡ text.old.items ++ flat_map (spec.ended 46) (context_of context.entry)) }
 {
     match context {
-        Context::Module(module) => push_ended(text, module, b'.'),
-        Context::Type(module, name) => {
-            push_ended(text, module, b'.')?;
-            push_ended(text, name, b'.')
+        Context::Module(module) => push_ended(text, module.as_slice(), b'.'),
+        Context::Type(ty) => {
+            push_ended(text, ty.module, b'.')?;
+            push_ended(text, ty.base, b'.')
         }
     }
 }

@@ -14,7 +14,7 @@ use crate::named::{
     in_extension, is_requirement, is_static, labels_of, name_of, overrides, sort_of,
 };
 use crate::spot::{Context, Spot};
-use evo_declarations::{Listed, Within, World, owner_of};
+use evo_declarations::{Listed, TypeId, Within, World, owner_of};
 use evo_names::Sort;
 use evo_tree::{DeclKind, Identifier, NominalKind};
 use std::alloc::{AllocError, Global};
@@ -24,12 +24,12 @@ pub fn context_of<'a>(world: World<'a>, within: Within<'a>) -> Option<Context<'a
     ensures { context_view result ≡ keys.context_of (world_of world.entry) (within_of within.entry) }
 {
     let own = world.own;
-    let module = own.listing.name.as_slice();
+    let module = own.listing.name;
     match within {
         Within::Top => Some(Context::Module(module)),
-        Within::Braces(_, name) => Some(Context::Type(module, name.as_slice())),
+        Within::Braces(_, name) => Some(Context::Type(TypeId::of(module, name))),
         Within::Extension(_) => match owner_of(world, within) {
-            Some(head) => Some(Context::Type(head.key.module, head.key.base)),
+            Some(head) => Some(Context::Type(head.key)),
             None => None,
         },
     }
@@ -78,11 +78,11 @@ fn memberwise_of<'a>(
     let Some(labels) = memberwise_labels(alloc, &own.listing, name.text.as_slice())? else {
         return Ok(None);
     };
-    let module = own.listing.name.as_slice();
+    let module = own.listing.name;
     Ok(Some(Spot {
         place: name.place,
-        module,
-        context: Context::Type(module, name.text.as_slice()),
+        module: module.as_slice(),
+        context: Context::Type(TypeId::of(module, &name.text)),
         base: b"init".as_slice(),
         labels: Some(labels),
         sort: Sort::Initialiser,
@@ -119,6 +119,18 @@ fn push_spot<'a>(spots: &mut Vec<Spot<'a>>, spot: Option<Spot<'a>>) -> Result<()
     }
 }
 
+/// Puts a declaration behind others, where it has a name.
+pub fn push_declared_name<'a>(
+    alloc: Global,
+    spots: &mut Vec<Spot<'a>>,
+    world: World<'a>,
+    listed: &Listed<'a>,
+) -> Result<(), AllocError>
+    ensures { OnOk result (spot_views spots.new.items ≡ spot_views spots.old.items ++ list_of (keys.declared_name (declaration_view world.entry listed.now))) }
+{
+    push_spot(spots, declared_name(alloc, world, listed)?)
+}
+
 fn push_names<'a>(
     alloc: Global,
     spots: &mut Vec<Spot<'a>>,
@@ -127,7 +139,7 @@ fn push_names<'a>(
 ) -> Result<(), AllocError>
     ensures { OnOk result (spot_views spots.new.items ≡ spot_views spots.old.items ++ keys.names_by (declaration_view world.entry listed.now)) }
 {
-    push_spot(spots, declared_name(alloc, world, listed)?)?;
+    push_declared_name(alloc, spots, world, listed)?;
     push_spot(spots, memberwise(alloc, world, listed)?)
 }
 

@@ -12,8 +12,9 @@ mod named;
 mod spot;
 mod twice;
 
-pub use declared::{context_of, declared_name, push_declared_names};
+pub use declared::{context_of, declared_name, push_declared_name, push_declared_names};
 pub use meeting::meets;
+pub use memberwise::writes_initialisers;
 pub use named::{WrittenName, header_of, name_of, overrides};
 pub use spot::{Context, Spot};
 pub use twice::first_twice;

@@ -41,9 +41,11 @@ fn same_context(a: Context<'_>, b: Context<'_>) -> bool
     ensures { result ≡ spec.same_names (context_of a.entry) (context_of b.entry) }
 {
     match (a, b) {
-        (Context::Module(first), Context::Module(second)) => same_name(first, second),
-        (Context::Type(first, name), Context::Type(second, other)) => {
-            same_name(first, second) && same_name(name, other)
+        (Context::Module(first), Context::Module(second)) => {
+            same_name(first.as_slice(), second.as_slice())
+        }
+        (Context::Type(first), Context::Type(second)) => {
+            same_name(first.module, second.module) && same_name(first.base, second.base)
         }
         _ => false,
     }

@@ -79,6 +79,14 @@ fn has_none(listing: &Listing<'_>, name: &[u8]) -> bool
     matches!(listing.form, Form::Interface) || any_written(name, listing.entries.as_slice())
 }
 
+/// Whether a struct of this name has those initialisers alone that are written: in an interface, or where its braces have
+/// one.
+pub fn writes_initialisers(listing: &Listing<'_>, name: &[u8]) -> bool
+    ensures { result ≡ spec.has_none (listing_view listing.now) name.now }
+{
+    has_none(listing, name)
+}
+
 /// The labels of the initialiser that a struct of this name has where its braces have none.
 pub(crate) fn memberwise_labels<'a>(
     alloc: Global,

@@ -1,13 +1,14 @@
 //! Declarations by their names, borrowed from trees.
 
-use evo_base::Place;
+use evo_base::{Name, Place};
+use evo_declarations::TypeId;
 use evo_names::Sort;
 
-/// What a declaration stands in: the top level of a module, or a type or protocol, by its module and its name.
+/// What a declaration stands in: the top level of a module, or a type or protocol.
 #[derive(Clone, Copy)]
 pub enum Context<'a> {
-    Module(&'a [u8]),
-    Type(&'a [u8], &'a [u8]),
+    Module(&'a Name),
+    Type(TypeId<'a>),
 }
 
 /// A declaration by its name: where it stands, and what it is there.

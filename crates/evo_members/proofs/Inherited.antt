@@ -2,7 +2,7 @@
 use Rattle.std.proofs.Common.{◌≡◌, ℕ, zero, suc, ◌+◌, List, [], ◌∷◌, ◌++◌, length, flat_map, reverse, Bool, true, false, refl, sym, ap, subst, ◌∙◌, arith, if◌then◌else◌}
 use Rattle.std.proofs.lemmas.List.{length-map, reverse-append, reverse-reverse, map-append}
 use Rattle.evo_base.specs.declared.key.Key.{Key}
-use Rattle.evo_declarations.specs.declared.seen.TypeId.{TypeId}
+use Rattle.evo_declarations.specs.declared.type_id.TypeId.{TypeId}
 use Rattle.evo_declarations.specs.Views.{key_of_type}
 use Rattle.evo_members.specs.Views.{keys_of}
 use Rattle.evo_members.specs.Texts.{inherited_length}

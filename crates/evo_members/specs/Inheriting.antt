@@ -1,7 +1,7 @@
 -- Protocols with what they inherit, as they are gone through.
 use Rattle.std.specs.Prelude.{◌≡◌, ℕ, ◌+◌, List, reverse}
 use Rattle.evo_base.specs.declared.key.Key.{Key}
-use Rattle.evo_declarations.specs.declared.seen.TypeId.{TypeId}
+use Rattle.evo_declarations.specs.declared.type_id.TypeId.{TypeId}
 use Rattle.evo_members.specs.Views.{keys_of}
 use Rattle.evo_names.specs.Listed.{World}
 use Rattle.evo_names.specs.Heads.{reach}

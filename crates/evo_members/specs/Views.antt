@@ -2,7 +2,7 @@
 use Rattle.std.specs.Prelude.{List, map}
 use Rattle.evo_base.specs.declared.key.Key.{Key}
 use Rattle.evo_declarations.specs.declared.listed.Listed.{Listed}
-use Rattle.evo_declarations.specs.declared.seen.TypeId.{TypeId}
+use Rattle.evo_declarations.specs.declared.type_id.TypeId.{TypeId}
 use Rattle.evo_declarations.specs.declared.world.World.{World}
 use Rattle.evo_declarations.specs.declared.world.Home.{Home}
 use Rattle.evo_declarations.specs.Views.{entry_view, key_of_type}

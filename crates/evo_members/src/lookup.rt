@@ -23,13 +23,7 @@ pub fn declares<'a>(world: World<'a>, declared: Declared<'a>, key: TypeId<'_>) -
         DeclKind::Nominal(_, name, _, _) => {
             let home = world.at(declared.home);
             let own = home.own;
-            same_type(
-                TypeId {
-                    module: own.listing.name.as_slice(),
-                    base: name.text.as_slice(),
-                },
-                key,
-            )
+            same_type(TypeId::of(own.listing.name, &name.text), key)
         }
         _ => false,
     }

@@ -22,10 +22,7 @@ fn type_of<'a>(world: World<'a>, listed: &Listed<'a>) -> Option<TypeId<'a>>
 {
     let own = world.own;
     match &listed.decl.kind {
-        DeclKind::Nominal(_, name, _, _) => Some(TypeId {
-            module: own.listing.name.as_slice(),
-            base: name.text.as_slice(),
-        }),
+        DeclKind::Nominal(_, name, _, _) => Some(TypeId::of(own.listing.name, &name.text)),
         DeclKind::Extension(extended, _, _) => match head_of(world, extended.names.as_slice()) {
             Some(head) => Some(head.key),
             None => None,
@@ -57,7 +54,7 @@ fn conformance<'a>(
     Ok(Spot {
         place,
         module: ty.module,
-        context: Context::Type(ty.module, ty.base),
+        context: Context::Type(ty),
         base: protocol.base,
         labels: Some(labels),
         sort: Sort::Function,

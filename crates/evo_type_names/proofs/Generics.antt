@@ -11,7 +11,7 @@ use Rattle.evo_members.specs.declared.located.Around.TheVariants as around
 use Rattle.evo_members.specs.Located.{around_of}
 use Rattle.evo_names.specs.Listed.{Text}
 use Rattle.evo_names.specs.Written.{Start, fixed, first_number, generic}
-use Rattle.evo_type_names.specs.declared.start.Scope.{Scope}
+use Rattle.evo_type_names.specs.declared.scope.Scope.{Scope}
 use Rattle.evo_type_names.specs.Prefixes.{has_self, number_from}
 use Rattle.evo_type_names.specs.Starts.{generic_names, scope_of}
 

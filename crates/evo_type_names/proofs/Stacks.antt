@@ -8,7 +8,8 @@ use Rattle.evo_names.specs.Written.{Start, Leads}
 use Rattle.evo_type_names.specs.declared.known.Known.{Known}
 use Rattle.evo_type_names.specs.declared.meaning.Meaning.{Meaning}
 use Rattle.evo_type_names.specs.Known.{size, AllKnown, Demands, Says, Under, Within, is_place}
-use Rattle.evo_type_names.specs.Resolving.{Chained, HasTurned, IsOn}
+use Rattle.evo_type_names.specs.Resolving.{Chained, Distinct, HasTurned, IsOn}
+use Rattle.evo_type_names.proofs.Lists.{at_within}
 
 some_same : {A : Type 0} {x y : A} → Some x ≡ Some y → x ≡ y
 some_same e = cc
@@ -80,6 +81,42 @@ on_front ls top y on = record { number = on.number; one = on.one; at = at_front 
 pub on_last : (ls : List Located) (top y : Located) → is_place top ≡ is_place y → IsOn (ls ++ top ∷ []) y
 on_last ls top y same = record { number = length ls; one = top; at = at_last ls top; same = same }
 
+-- ---- places that wait, each once
+
+at_end : {A : Type 0} (xs : List A) (y : A) (i : ℕ) (x : A) → slice_get (xs ++ y ∷ []) i ≡ Some x → (slice_get xs i ≡ Some x) ⊎ ((y ≡ x) × (i ≡ length xs))
+at_end [] y zero x e = inr (some_same e, refl)
+at_end [] y (suc i) x e = absurd cc
+at_end (z ∷ xs) y zero x e = inl e
+at_end (z ∷ xs) y (suc i) x e = by (at_end xs y i x e)
+  where
+    by : (slice_get xs i ≡ Some x) ⊎ ((y ≡ x) × (i ≡ length xs)) → (slice_get xs i ≡ Some x) ⊎ ((y ≡ x) × (suc i ≡ suc (length xs)))
+    by (inl at) = inl at
+    by (inr p) = inr (p.0, ap suc p.1)
+
+pub distinct_front : (ls : List Located) (top : Located) → Distinct (ls ++ top ∷ []) → Distinct ls
+distinct_front ls top d i j a b lt e f same = d i j a b lt (at_front ls (top ∷ []) i a e) (at_front ls (top ∷ []) j b f) same
+
+pub distinct_one : (l : Located) → Distinct (l ∷ [])
+distinct_one l i zero a b lt e f same = absurd (omega (arith, lt))
+distinct_one l i (suc j) a b lt e f same = absurd cc
+
+pub distinct_more : (ks : List Located) (next : Located) → Distinct ks → (IsOn ks next → ⊥) → Distinct (ks ++ next ∷ [])
+distinct_more ks next d off i j a b lt e f same = by (at_end ks next i a e) (at_end ks next j b f)
+  where
+    by : (slice_get ks i ≡ Some a) ⊎ ((next ≡ a) × (i ≡ length ks)) → (slice_get ks j ≡ Some b) ⊎ ((next ≡ b) × (j ≡ length ks)) → ⊥
+    by (inl x) (inl y) = d i j a b lt x y same
+    by (inl x) (inr y) = off (record { number = i; one = a; at = x; same = subst (λ (l : Located). is_place a ≡ is_place l) (sym y.0) same })
+    by (inr x) (inl y) = let within = at_within ks j b y in let here = x.1 in absurd (omega (arith, lt, here, within))
+    by (inr x) (inr y) = let here = x.1 in let there = y.1 in absurd (omega (arith, lt, here, there))
+
+-- on a stack with one more at the end
+pub off_both : (ls : List Located) (top y : Located) → (is_place top ≡ is_place y → ⊥) → (IsOn ls y → ⊥) → IsOn (ls ++ top ∷ []) y → ⊥
+off_both ls top y other off on = by (at_end ls top on.number on.one on.at)
+  where
+    by : (slice_get ls on.number ≡ Some on.one) ⊎ ((top ≡ on.one) × (on.number ≡ length ls)) → ⊥
+    by (inl at) = off (record { number = on.number; one = on.one; at = at; same = on.same })
+    by (inr p) = other (subst (λ (l : Located). is_place l ≡ is_place y) (sym p.0) on.same)
+
 -- ---- circles
 
 within_of : {w : World} {x : Start} {n : ℕ} → Under w x n → Within w x n
@@ -140,22 +177,14 @@ noted_length : {A : Type 0} (xs : List A) (x : A) → length (xs ++ x ∷ []) �
 noted_length [] x = refl
 noted_length (y ∷ xs) x = let e : suc (length xs + 1) ≡ suc (length xs) + 1 = omega arith in ap suc (noted_length xs x) ∙ e
 
-pub turned_noted : (w : World) (ks ms : List Known) (ls : List Located) (top : Located) (found : Option Meaning) → AllKnown w ks → Chained w (ls ++ top ∷ []) → Says w (start_of w top) found → ms ≡ ks ++ (record { located = top; found = found }) ∷ [] → HasTurned w ks ls ms ls
-turned_noted w ks ms ls top found all chained says is =
-    subst (λ (xs : List Known). HasTurned w ks ls xs ls) (sym is) (all_more w ks (record { located = top; found = found }) all says, chained_front w ls top chained, inl (noted_length ks (record { located = top; found = found }), refl))
+pub turned_noted : (w : World) (ks ms : List Known) (ls : List Located) (top : Located) (found : Option Meaning) → AllKnown w ks → Chained w (ls ++ top ∷ []) → Distinct (ls ++ top ∷ []) → Says w (start_of w top) found → ms ≡ ks ++ (record { located = top; found = found }) ∷ [] → HasTurned w ks ls ms ls
+turned_noted w ks ms ls top found all chained distinct says is =
+    subst (λ (xs : List Known). HasTurned w ks ls xs ls) (sym is) (all_more w ks (record { located = top; found = found }) all says, chained_front w ls top chained, distinct_front ls top distinct, inl (noted_length ks (record { located = top; found = found }), refl))
 
 two_more : {A : Type 0} (xs : List A) (x y : A) → length ((xs ++ x ∷ []) ++ y ∷ []) ≡ length xs + 2
 two_more xs x y = let e : length xs + 1 + 1 ≡ length xs + 2 = omega arith in noted_length (xs ++ x ∷ []) y ∙ ap (λ k. k + 1) (noted_length xs x) ∙ e
 
-pub turned_pushed : (w : World) (ks : List Known) (ls mid new : List Located) (top next : Located) → AllKnown w ks → Chained w (ls ++ top ∷ []) → Demands w (start_of w top) (start_of w next) → mid ≡ ls ++ top ∷ [] → new ≡ mid ++ next ∷ [] → HasTurned w ks ls ks new
-turned_pushed w ks ls mid new top next all chained demands one two =
+pub turned_pushed : (w : World) (ks : List Known) (ls mid new : List Located) (top next : Located) → AllKnown w ks → Chained w (ls ++ top ∷ []) → Distinct (ls ++ top ∷ []) → (IsOn (ls ++ top ∷ []) next → ⊥) → Demands w (start_of w top) (start_of w next) → mid ≡ ls ++ top ∷ [] → new ≡ mid ++ next ∷ [] → HasTurned w ks ls ks new
+turned_pushed w ks ls mid new top next all chained distinct off demands one two =
     let is : new ≡ (ls ++ top ∷ []) ++ next ∷ [] = two ∙ ap (λ (l : List Located). l ++ next ∷ []) one in
-    subst (λ (xs : List Located). HasTurned w ks ls ks xs) (sym is) (all, chained_more w ls top next chained demands, inr (refl, two_more ls top next))
-
-either_on : (ls : List Located) (top y : Located) (a b : Bool) → (IsTrue a → is_place top ≡ is_place y) → (IsTrue b → IsOn ls y) → (a ≡ true) ⊎ (b ≡ true) → IsOn (ls ++ top ∷ []) y
-either_on ls top y a b one two (inl e) = on_last ls top y (one e)
-either_on ls top y a b one two (inr e) = on_front ls top y (two e)
-
-pub turned_circle : (w : World) (ks ms : List Known) (ls : List Located) (top next : Located) (a b : Bool) → AllKnown w ks → Chained w (ls ++ top ∷ []) → Demands w (start_of w top) (start_of w next) → (IsTrue a → is_place top ≡ is_place next) → (IsTrue b → IsOn ls next) → (a ≡ true) ⊎ (b ≡ true) → ms ≡ ks ++ (record { located = top; found = None }) ∷ [] → HasTurned w ks ls ms ls
-turned_circle w ks ms ls top next a b all chained demands one two either is =
-    turned_noted w ks ms ls top None all chained (circle w top ls next chained demands (either_on ls top next a b one two either)) is
+    subst (λ (xs : List Located). HasTurned w ks ls ks xs) (sym is) (all, chained_more w ls top next chained demands, distinct_more (ls ++ top ∷ []) next distinct off, inr (refl, two_more ls top next))

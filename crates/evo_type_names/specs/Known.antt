@@ -56,9 +56,9 @@ Says w x (Some m) = (v : Viewpoint) → Leads w v x [] (met_by m) (type_of m)
 abbrev pub AllKnown : World → List Known → Type 0
 AllKnown w ks = (i : ℕ) (k : Known) → slice_get ks i ≡ Some k → Says w (start_of w k.located) k.found
 
--- what is answered is known of this place
+-- what is answered is known of this place, or nothing is
 abbrev pub IsKnownAt : List Known → Located → Option (Bor Known) → Type 0
-IsKnownAt ks l None = ⊤
+IsKnownAt ks l None = (i : ℕ) (k : Known) → slice_get ks i ≡ Some k → is_place k.located ≡ is_place l → ⊥
 IsKnownAt ks l (Some k) = (i : ℕ) × (slice_get ks i ≡ Some k.now) × (is_place k.now.located ≡ is_place l)
 
 -- ---- how far it is to a type

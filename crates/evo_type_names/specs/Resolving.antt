@@ -1,5 +1,5 @@
 -- What is being found out of written types, each place once.
-use Rattle.std.specs.Prelude.{◌≡◌, ℕ, suc, ◌+◌, ◌⊎◌, List, Option, Some, None, length, slice_get}
+use Rattle.std.specs.Prelude.{◌≡◌, ℕ, suc, ◌+◌, ◌<◌, ◌⊎◌, List, Option, Some, None, length, slice_get}
 use Rattle.evo_base.specs.declared.key.Key.{Key}
 use Rattle.evo_resolved.specs.declared.resolved_type.RType.{RType}
 use Rattle.evo_members.specs.declared.located.Located.{Located}
@@ -21,6 +21,10 @@ IsMeaning w s ns (Some m) = Means w s ns (met_by m) (type_of m)
 abbrev pub Chained : World → List Located → Type 0
 Chained w ls = (i : ℕ) (a b : Located) → slice_get ls i ≡ Some a → slice_get ls (suc i) ≡ Some b → Demands w (start_of w a) (start_of w b)
 
+-- no two are of one place, so that no more wait than there are places
+abbrev pub Distinct : List Located → Type 0
+Distinct ls = (i j : ℕ) (a b : Located) → i < j → slice_get ls i ≡ Some a → slice_get ls j ≡ Some b → is_place a ≡ is_place b → ⊥
+
 -- it is the place of one of these
 pub record IsOn (ls : List Located) (l : Located) : Type 0 where
   pub number : ℕ
@@ -30,4 +34,4 @@ pub record IsOn (ls : List Located) (l : Located) : Type 0 where
 
 -- one more is known, or two more wait
 abbrev pub HasTurned : World → List Known → List Located → List Known → List Located → Type 0
-HasTurned w known stack known' stack' = AllKnown w known' × Chained w stack' × (((length known' ≡ length known + 1) × (length stack' ≡ length stack)) ⊎ ((length known' ≡ length known) × (length stack' ≡ length stack + 2)))
+HasTurned w known stack known' stack' = AllKnown w known' × Chained w stack' × Distinct stack' × (((length known' ≡ length known + 1) × (length stack' ≡ length stack)) ⊎ ((length known' ≡ length known) × (length stack' ≡ length stack + 2)))

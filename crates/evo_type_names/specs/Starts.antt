@@ -12,7 +12,7 @@ use Rattle.evo_names.specs.Listed as names
 use Rattle.evo_names.specs.Listed.{Text}
 use Rattle.evo_names.specs.Written as written
 use Rattle.evo_names.specs.Written.{fixed}
-use Rattle.evo_type_names.specs.declared.start.Scope.{Scope}
+use Rattle.evo_type_names.specs.declared.scope.Scope.{Scope}
 use Rattle.evo_type_names.specs.declared.start.Start.{Start}
 use Rattle.evo_type_names.specs.declared.start.Start.TheVariants as start
 

@@ -8,6 +8,7 @@ ghost use Rattle.evo_type_names.specs.Aliases.{alias_at, alias_in, alias_key, al
 ghost use Rattle.evo_declarations.specs.Views.{entry_view, within_of};
 ghost use Rattle.evo_names.specs.Keys.{context_of};
 
+use evo_base::Name;
 use evo_declarations::{Within, World};
 use evo_meeting::{Context, context_of};
 use evo_members::{Declared, Space};
@@ -17,18 +18,18 @@ use std::alloc::AllocError;
 /// A `typealias` by its module, what it stands in, and its name.
 #[derive(Clone, Copy)]
 pub struct AliasId<'a> {
-    pub module: &'a [u8],
+    pub module: &'a Name,
     pub context: Context<'a>,
-    pub base: &'a [u8],
+    pub base: &'a Name,
 }
 
-fn alias_in<'a>(home: World<'a>, within: Within<'a>, name: &'a [u8]) -> Option<AliasId<'a>>
+fn alias_in<'a>(home: World<'a>, within: Within<'a>, name: &'a Name) -> Option<AliasId<'a>>
     ensures { option_map alias_key result ≡ option_map (alias_in (world_of home.entry) name.now) (context_of (world_of home.entry) (within_of within.entry)) }
 {
     let own = home.own;
     match context_of(home, within) {
         Some(context) => Some(AliasId {
-            module: own.listing.name.as_slice(),
+            module: own.listing.name,
             context,
             base: name,
         }),
@@ -54,7 +55,7 @@ pub(crate) fn alias_of_number<'a>(space: &Space<'a>, number: usize) -> Option<Al
             Some(name) => alias_in(
                 space.world.at(declared.home),
                 declared.listed.within,
-                name.text.as_slice(),
+                &name.text,
             ),
             None => None,
         },
@@ -66,9 +67,9 @@ fn is_same_context(first: Context<'_>, second: Context<'_>) -> bool
     ensures { result ≡ same_context first.entry second.entry }
 {
     match (first, second) {
-        (Context::Module(one), Context::Module(other)) => one == other,
-        (Context::Type(one, name), Context::Type(other, second_name)) => {
-            one == other && name == second_name
+        (Context::Module(one), Context::Module(other)) => one.as_slice() == other.as_slice(),
+        (Context::Type(one), Context::Type(other)) => {
+            one.module == other.module && one.base == other.base
         }
         _ => false,
     }
@@ -77,9 +78,9 @@ fn is_same_context(first: Context<'_>, second: Context<'_>) -> bool
 fn is_same(first: AliasId<'_>, second: AliasId<'_>) -> bool
     ensures { result ≡ written.same_alias (alias_key first.entry) (alias_key second.entry) }
 {
-    first.module == second.module
+    first.module.as_slice() == second.module.as_slice()
         && is_same_context(first.context, second.context)
-        && first.base == second.base
+        && first.base.as_slice() == second.base.as_slice()
 }
 
 fn is_met(alias: AliasId<'_>, aliases: &[AliasId<'_>]) -> bool

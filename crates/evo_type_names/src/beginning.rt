@@ -1,6 +1,6 @@
 //! What names begin with, and the names behind it.
 
-ghost use Rattle.std.specs.Prelude.{◌≡◌, IfOk, if◌then◌else◌};
+ghost use Rattle.std.specs.Prelude.{◌≡◌, ◌≤◌, IfOk, if◌then◌else◌, length};
 ghost use Rattle.std.specs.Option.{option_and_then, option_map};
 ghost use Rattle.evo_declarations.specs.Heads.{found_head};
 ghost use Rattle.evo_declarations.specs.Worlds.{world_of};
@@ -10,7 +10,8 @@ ghost use Rattle.evo_type_names.specs.Prefixes.{begin_from, beginning_view, foun
 ghost use Rattle.evo_type_names.specs.Starts.{scope_of, start_view};
 
 use crate::round::found_around;
-use crate::start::{Scope, Start};
+use crate::scope::Scope;
+use crate::start::Start;
 use evo_base::Name;
 use evo_declarations::{Head, named, qualified};
 use evo_members::{Around, Space};
@@ -32,15 +33,16 @@ fn is_in_protocol(around: Around<'_>) -> bool
 }
 
 /// The number of a generic parameter, behind `Self` where there is one.
-fn numbered(behind_self: bool, name: &[u8], generics: &[GenericParameter]) -> Option<usize>
+fn numbered(behind_self: bool, name: &[u8], generics: &[GenericParameter]) -> Option<u32>
+    requires { length generics.now ≤ 4 }
     ensures { result ≡ number_from (if behind_self then 1 else 0) name.now generics.now }
 {
     for (number, generic) in generics.iter().enumerate() {
         if name == generic.name.text.as_slice() {
             if behind_self {
-                return Some(number + 1);
+                return Some(number as u32 + 1);
             }
-            return Some(number);
+            return Some(number as u32);
         }
     }
     None
@@ -60,11 +62,11 @@ fn nearer<'a>(
     alloc: Global,
     space: &Space<'a>,
     scope: Scope<'a>,
-    name: &'a [u8],
+    name: &'a Name,
 ) -> Result<Option<Start<'a>>, AllocError>
     ensures { IfOk result (λ o. option_map (start_view (world_of space.now.world)) o ≡ found_nearer (world_of space.now.world) (scope_of space.now.world scope.entry) name.now) }
 {
-    match generic(space, scope, name) {
+    match generic(space, scope, name.as_slice()) {
         Some(start) => Ok(Some(start)),
         None => found_around(alloc, space, scope.view(space.world), scope.around, name),
     }
@@ -167,7 +169,7 @@ pub(crate) fn begin<'a>(
     match names {
         [] => Ok(None),
         [first, rest @ ..] => {
-            let near = nearer(alloc, space, scope, first.as_slice())?;
+            let near = nearer(alloc, space, scope, first)?;
             Ok(begin_by(space, scope, near, first.as_slice(), rest))
         }
     }

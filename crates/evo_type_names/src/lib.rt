@@ -10,11 +10,13 @@ mod known;
 mod meaning;
 mod resolving;
 mod round;
+mod scope;
 mod start;
 mod walk;
 
 pub use aliases::AliasId;
 pub use known::Known;
 pub use meaning::{Meaning, TypeHead};
-pub use resolving::meaning_of;
-pub use start::{Scope, Start};
+pub use resolving::{meaning_by, meaning_of};
+pub use scope::Scope;
+pub use start::Start;

@@ -1,6 +1,7 @@
 //! The types that names lead to.
 
 use crate::aliases::AliasId;
+use evo_base::Name;
 use evo_declarations::TypeId;
 
 /// A type, or where a path of names begins.
@@ -8,7 +9,7 @@ use evo_declarations::TypeId;
 pub enum TypeHead<'a> {
     Named(TypeId<'a>),
     /// A parameter; with names behind it, its associated type.
-    Parameter(usize),
+    Parameter(u32),
     NoValue,
 }
 
@@ -18,5 +19,5 @@ pub enum TypeHead<'a> {
 pub struct Meaning<'a> {
     pub aliases: Vec<AliasId<'a>>,
     pub head: TypeHead<'a>,
-    pub path: Vec<&'a [u8]>,
+    pub path: Vec<&'a Name>,
 }

@@ -1,21 +1,21 @@
 //! What written types mean, each place once.
 
-ghost use Rattle.std.specs.Prelude.{◌≡◌, ◌∷◌, ◌++◌, ◌+◌, ◌<◌, [], IfOk, IsTrue, OnOk, length};
+ghost use Rattle.std.specs.Prelude.{◌≡◌, ◌∷◌, ◌++◌, ◌+◌, ◌<◌, ◌↔◌, [], IfOk, IsTrue, OnOk, length};
 ghost use Rattle.evo_declarations.specs.Worlds.{world_of};
 ghost use Rattle.evo_type_names.specs.Known.{AllKnown};
-ghost use Rattle.evo_type_names.specs.Resolving.{Chained, HasTurned, IsMeaning, IsOn};
+ghost use Rattle.evo_type_names.specs.Resolving.{Chained, Distinct, HasTurned, IsMeaning, IsOn};
 ghost use Rattle.evo_type_names.specs.Starts.{scope_of};
 
 use crate::known::{Known, is_same_place};
 use crate::meaning::Meaning;
-use crate::start::Scope;
+use crate::scope::Scope;
 use crate::walk::{Outcome, tried, tried_place};
 use evo_base::Name;
 use evo_members::{Located, Space};
 use std::alloc::{AllocError, Global};
 
 fn is_on(stack: &[Located<'_>], located: Located<'_>) -> bool
-    ensures { IsTrue result → IsOn stack.now located.entry }
+    ensures { IsTrue result ↔ IsOn stack.now located.entry }
 {
     for one in stack {
         if is_same_place(*one, located) {
@@ -45,7 +45,7 @@ fn turn<'a>(
     stack: &mut Vec<Located<'a>>,
     top: Located<'a>,
 ) -> Result<(), AllocError>
-    requires { AllKnown (world_of space.now.world) known.old.items × Chained (world_of space.now.world) (stack.old.items ++ top ∷ []) }
+    requires { AllKnown (world_of space.now.world) known.old.items × Chained (world_of space.now.world) (stack.old.items ++ top ∷ []) × Distinct (stack.old.items ++ top ∷ []) }
     ensures { OnOk result (HasTurned (world_of space.now.world) known.old.items stack.old.items known.new.items stack.new.items) }
 {
     match tried_place(alloc, space, known.as_slice(), top)? {
@@ -106,6 +106,28 @@ pub fn meaning_of<'a>(
             Outcome::Means(meaning) => return Ok(Some(meaning)),
             Outcome::Nothing => return Ok(None),
             Outcome::Wants(next) => resolve(alloc, space, known, next)?,
+        }
+    }
+}
+
+/// The same, by what is known already. What has to be known besides is found out for this answer alone.
+pub fn meaning_by<'a>(
+    alloc: Global,
+    space: &Space<'a>,
+    known: &[Known<'a>],
+    scope: Scope<'a>,
+    names: &'a [Name],
+) -> Result<Option<Meaning<'a>>, AllocError>
+    requires { AllKnown (world_of space.now.world) known.now }
+    ensures { IfOk result (λ o. IsMeaning (world_of space.now.world) (scope_of space.now.world scope.entry) names.now o) }
+{
+    match tried(alloc, space, known, None, scope, names)? {
+        Outcome::Means(meaning) => Ok(Some(meaning)),
+        Outcome::Nothing => Ok(None),
+        Outcome::Wants(_) => {
+            let mut fresh = Vec::new(alloc);
+            let found = meaning_of(alloc, space, &mut fresh, scope, names)?;
+            Ok(found)
         }
     }
 }

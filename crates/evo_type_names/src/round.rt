@@ -11,6 +11,7 @@ ghost use Rattle.evo_type_names.specs.Round.{alias_member, around_found, found_m
 ghost use Rattle.evo_type_names.specs.Starts.{start_view};
 
 use crate::start::Start;
+use evo_base::Name;
 use evo_declarations::{TypeId, Viewpoint};
 use evo_members::{
     Around, Located, SelfType, Sought, Space, Test, alias_of, associated_of, associated_type,
@@ -70,14 +71,14 @@ fn required<'a>(
     space: &Space<'a>,
     protocol: TypeId<'a>,
     own: SelfType<'a>,
-    name: &'a [u8],
+    name: &'a Name,
 ) -> Result<Option<Start<'a>>, AllocError>
     ensures { IfOk result (λ o. option_map (start_view (world_of space.now.world)) o ≡ written.required (world_of space.now.world) (key_of_type protocol.entry) (self_of own.entry) name.now) }
 {
     match own {
         SelfType::Named(key) => {
             let protocols = [protocol];
-            let found = associated_type(alloc, space, protocols.as_slice(), key, name)?;
+            let found = associated_type(alloc, space, protocols.as_slice(), key, name.as_slice())?;
             Ok(started(found, space))
         }
         SelfType::Parameter => Ok(Some(Start::Member(0, name))),
@@ -88,12 +89,12 @@ fn required_if<'a>(
     alloc: Global,
     space: &Space<'a>,
     own: SelfType<'a>,
-    name: &'a [u8],
+    name: &'a Name,
     protocol: TypeId<'a>,
 ) -> Result<Option<Start<'a>>, AllocError>
     ensures { IfOk result (λ o. option_map (start_view (world_of space.now.world)) o ≡ required_member (world_of space.now.world) (self_of own.entry) name.now (key_of_type protocol.entry)) }
 {
-    match associated_of(space, protocol, name) {
+    match associated_of(space, protocol, name.as_slice()) {
         Some(_) => required(alloc, space, protocol, own, name),
         None => Ok(None),
     }
@@ -125,14 +126,14 @@ fn protocol_member<'a>(
     space: &Space<'a>,
     view: Viewpoint<'a>,
     own: SelfType<'a>,
-    name: &'a [u8],
+    name: &'a Name,
     protocol: TypeId<'a>,
 ) -> Result<Option<Start<'a>>, AllocError>
     ensures { IfOk result (λ o. option_map (start_view (world_of space.now.world)) o ≡ member_of_protocol (world_of space.now.world) (view_of view.entry) (self_of own.entry) name.now (key_of_type protocol.entry)) }
 {
     match required_if(alloc, space, own, name, protocol)? {
         Some(start) => Ok(Some(start)),
-        None => Ok(protocol_alias(space, view, own, name, protocol)),
+        None => Ok(protocol_alias(space, view, own, name.as_slice(), protocol)),
     }
 }
 
@@ -141,7 +142,7 @@ fn first_member<'a>(
     space: &Space<'a>,
     view: Viewpoint<'a>,
     own: SelfType<'a>,
-    name: &'a [u8],
+    name: &'a Name,
     protocols: &[TypeId<'a>],
 ) -> Result<Option<Start<'a>>, AllocError>
     ensures { IfOk result (λ o. option_map (start_view (world_of space.now.world)) o ≡ found_members (world_of space.now.world) (view_of view.entry) (self_of own.entry) name.now (keys_of protocols.now)) }
@@ -160,12 +161,12 @@ fn in_protocol<'a>(
     space: &Space<'a>,
     view: Viewpoint<'a>,
     own: SelfType<'a>,
-    name: &'a [u8],
+    name: &'a Name,
     protocol: TypeId<'a>,
 ) -> Result<Option<Start<'a>>, AllocError>
     ensures { IfOk result (λ o. option_map (start_view (world_of space.now.world)) o ≡ members_round (world_of space.now.world) (view_of view.entry) (self_of own.entry) name.now (key_of_type protocol.entry)) }
 {
-    if !space.has_alias(name) {
+    if !space.has_alias(name.as_slice()) {
         return Ok(None);
     }
     let protocols = [protocol];
@@ -203,15 +204,15 @@ pub(crate) fn found_around<'a>(
     space: &Space<'a>,
     view: Viewpoint<'a>,
     around: Around<'a>,
-    name: &'a [u8],
+    name: &'a Name,
 ) -> Result<Option<Start<'a>>, AllocError>
     ensures { IfOk result (λ o. option_map (start_view (world_of space.now.world)) o ≡ around_found (world_of space.now.world) (view_of view.entry) (around_of around.entry) name.now) }
 {
     match around {
         Around::Nowhere => Ok(None),
-        Around::InType(key) => in_type(alloc, space, view, key, name),
+        Around::InType(key) => in_type(alloc, space, view, key, name.as_slice()),
         Around::InProtocol(protocol, own) => {
-            if name == b"Self".as_slice() {
+            if name.as_slice() == b"Self".as_slice() {
                 return Ok(Some(self_start(own, space)));
             }
             in_protocol(alloc, space, view, own, name, protocol)

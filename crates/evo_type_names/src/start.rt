@@ -8,27 +8,19 @@ ghost use Rattle.evo_names.specs.Written as written;
 ghost use Rattle.evo_type_names.specs.Starts.{scope_of, round_of};
 ghost use Rattle.evo_declarations.specs.Views.{types_of};
 
-use evo_declarations::{Home, TypeId, Viewpoint, World};
+use crate::scope::Scope;
+use evo_base::Name;
+use evo_declarations::{TypeId, Viewpoint, World};
 use evo_members::{Around, Located};
-use evo_tree::GenericParameter;
-
-/// Where a type is written.
-#[derive(Clone, Copy)]
-pub struct Scope<'a> {
-    /// The module whose names it uses.
-    pub home: Home,
-    pub around: Around<'a>,
-    pub generics: &'a [GenericParameter],
-}
 
 /// Where names begin.
 #[derive(Clone, Copy)]
 pub enum Start<'a> {
     Named(TypeId<'a>),
     /// A parameter, by its number.
-    Parameter(usize),
+    Parameter(u32),
     /// An associated type of a parameter.
-    Member(usize, &'a [u8]),
+    Member(u32, &'a Name),
     /// With what is written in a `typealias` or as a default.
     Written(Located<'a>),
 }

@@ -19,7 +19,8 @@ use crate::beginning::{Begun, begin};
 use crate::known::{Known, known_at};
 use crate::meaning::{Meaning, TypeHead};
 use crate::round::type_member;
-use crate::start::{Scope, Start};
+use crate::scope::Scope;
+use crate::start::Start;
 use evo_base::Name;
 use evo_declarations::{Home, Viewpoint};
 use evo_members::{Around, Declared, Located, Space};
@@ -51,7 +52,7 @@ fn goes_on(entered: Entered<'_>) -> bool
     matches!(entered, Entered::On)
 }
 
-fn replace<'a>(path: &mut Vec<&'a [u8]>, names: &[&'a [u8]]) -> Result<(), AllocError>
+fn replace<'a>(path: &mut Vec<&'a Name>, names: &[&'a Name]) -> Result<(), AllocError>
     ensures { OnOk result (path.new.items ≡ names.now) }
 {
     path.clear();
@@ -64,7 +65,7 @@ fn replace<'a>(path: &mut Vec<&'a [u8]>, names: &[&'a [u8]]) -> Result<(), Alloc
 fn take<'a>(
     aliases: &mut Vec<AliasId<'a>>,
     head: &mut TypeHead<'a>,
-    path: &mut Vec<&'a [u8]>,
+    path: &mut Vec<&'a Name>,
     found: &Option<Meaning<'a>>,
 ) -> Result<Entered<'a>, AllocError>
     ensures { IfOk result (λ e. IsTaken found.now e (alias_keys aliases.old.items) (alias_keys aliases.new.items) (type_view head.new (texts_of path.new.items))) }
@@ -85,7 +86,7 @@ fn enter_written<'a>(
     known: &[Known<'a>],
     aliases: &mut Vec<AliasId<'a>>,
     head: &mut TypeHead<'a>,
-    path: &mut Vec<&'a [u8]>,
+    path: &mut Vec<&'a Name>,
     located: Located<'a>,
 ) -> Result<Entered<'a>, AllocError>
     requires { AllKnown (world_of space.now.world) known.now }
@@ -105,7 +106,7 @@ fn enter<'a>(
     known: &[Known<'a>],
     aliases: &mut Vec<AliasId<'a>>,
     head: &mut TypeHead<'a>,
-    path: &mut Vec<&'a [u8]>,
+    path: &mut Vec<&'a Name>,
     start: Start<'a>,
 ) -> Result<Entered<'a>, AllocError>
     requires { AllKnown (world_of space.now.world) known.now }
@@ -142,14 +143,14 @@ fn step<'a>(
     view: Viewpoint<'a>,
     aliases: &mut Vec<AliasId<'a>>,
     head: &mut TypeHead<'a>,
-    path: &mut Vec<&'a [u8]>,
-    name: &'a [u8],
+    path: &mut Vec<&'a Name>,
+    name: &'a Name,
 ) -> Result<Entered<'a>, AllocError>
     requires { AllKnown (world_of space.now.world) known.now }
     ensures { IfOk result (λ e. IsStepped (world_of space.now.world) (view_of view.entry) (type_view head.old (texts_of path.old.items)) name.now e (alias_keys aliases.old.items) (alias_keys aliases.new.items) (type_view head.new (texts_of path.new.items))) }
 {
     match *head {
-        TypeHead::Named(key) => match type_member(alloc, space, view, key, name)? {
+        TypeHead::Named(key) => match type_member(alloc, space, view, key, name.as_slice())? {
             Some(located) => {
                 let entered = enter_written(space, known, aliases, head, path, located)?;
                 Ok(entered)
@@ -171,23 +172,14 @@ fn walk_on<'a>(
     view: Viewpoint<'a>,
     aliases: &mut Vec<AliasId<'a>>,
     head: &mut TypeHead<'a>,
-    path: &mut Vec<&'a [u8]>,
+    path: &mut Vec<&'a Name>,
     names: &'a [Name],
 ) -> Result<Entered<'a>, AllocError>
     requires { AllKnown (world_of space.now.world) known.now }
     ensures { IfOk result (λ e. IsWalked (world_of space.now.world) (view_of view.entry) (fixed (type_view head.old (texts_of path.old.items))) names.now e (alias_keys aliases.old.items) (alias_keys aliases.new.items) (type_view head.new (texts_of path.new.items))) }
 {
     for name in names {
-        let entered = step(
-            alloc,
-            space,
-            known,
-            view,
-            aliases,
-            head,
-            path,
-            name.as_slice(),
-        )?;
+        let entered = step(alloc, space, known, view, aliases, head, path, name)?;
         if !goes_on(entered) {
             return Ok(entered);
         }
@@ -203,7 +195,7 @@ fn walk<'a>(
     view: Viewpoint<'a>,
     aliases: &mut Vec<AliasId<'a>>,
     head: &mut TypeHead<'a>,
-    path: &mut Vec<&'a [u8]>,
+    path: &mut Vec<&'a Name>,
     begun: Begun<'a>,
 ) -> Result<Entered<'a>, AllocError>
     requires { AllKnown (world_of space.now.world) known.now }
