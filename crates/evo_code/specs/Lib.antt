@@ -3,3 +3,4 @@ pub mod Layouts
 pub mod Symbols
 pub mod Loads
 pub mod Laws
+pub mod Groups

@@ -1,6 +1,9 @@
 //! The load check.
 
-ghost use Rattle.std.specs.Prelude.{◌≡◌, ◌&&◌, slice_get};
+ghost use Rattle.std.specs.Prelude.{◌≡◌, ◌&&◌, ℕ, List, true, slice_get};
+ghost use Rattle.evo_code.specs.Groups.{enters, looks_into};
+ghost use Rattle.evo_code.specs.declared.instr.Instr.{Instr};
+ghost use Rattle.evo_code.specs.declared.object.Level.{Level};
 ghost use Rattle.std.specs.List.{list_all};
 ghost use Rattle.evo_code.specs.Loads.{passes, rank, is_timed, may_call, is_low, is_tick, jumps_well, level_in, level_of, instr_passes, code_passes, is_place, is_sized, begins_well, is_exported_well, function_passes, size_passes, level_passes, entry_passes, class_passes, requirement_passes, subtable_passes, protocol_passes, conformance_passes, sub_entry_passes};
 
@@ -93,34 +96,12 @@ fn places_of_size(to: &Operand, from: &Operand, size: &Layout, object: &Object) 
     is_place(to, object) && is_place(from, object) && is_sized(size, object)
 }
 
-fn check_instr(instr: &Instr, level: Level, code: &[Instr], at: u64, object: &Object) -> bool
-    ensures { result ≡ instr_passes object.now level code.now at instr.now }
+// Checks an instruction that enters a function.
+fn check_enter(instr: &Instr, level: Level, object: &Object) -> bool
+    requires { enters instr.now ≡ true }
+    ensures { (code : List Instr) (at : ℕ) → result ≡ instr_passes object.now level code at instr.now }
 {
     match instr {
-        Instr::Tick => is_timed(level),
-        Instr::Int { to, .. } => is_place(to, object),
-        Instr::Bool { to, .. } => is_place(to, object),
-        Instr::Text { to, .. } => is_place(to, object),
-        Instr::Move { to, from, size } => places_of_size(to, from, size, object),
-        Instr::Jump { target } => jumps_well(code, at, *target),
-        Instr::Unless { test, target } => is_place(test, object) && jumps_well(code, at, *target),
-        Instr::Math {
-            to,
-            left,
-            right,
-            ..
-        } => three_places(to, left, right, object),
-        Instr::Neg { to, from } => two_places(to, from, object),
-        Instr::Order {
-            to,
-            left,
-            right,
-            ..
-        } => three_places(to, left, right, object),
-        Instr::Equal { to, left, right } => three_places(to, left, right, object),
-        Instr::Same { to, left, right } => three_places(to, left, right, object),
-        Instr::Not { to, from } => two_places(to, from, object),
-        Instr::Join { to, left, right } => three_places(to, left, right, object),
         Instr::Call {
             function,
             args,
@@ -150,7 +131,22 @@ fn check_instr(instr: &Instr, level: Level, code: &[Instr], at: u64, object: &Ob
                 && is_place(table, object)
                 && are_arguments(args, to, size, object)
         }
-        Instr::Return { from, size } => is_place(from, object) && is_sized(size, object),
+        _ => unreachable!(),
+    }
+}
+
+fn places_and_sizes(from: &Operand, offset: &Layout, size: &Layout, object: &Object) -> bool
+    ensures { result ≡ (is_place object.now from.now && (is_sized object.now offset.now && is_sized object.now size.now)) }
+{
+    is_place(from, object) && is_sized(offset, object) && is_sized(size, object)
+}
+
+// Checks an instruction that takes from an object, a box or a table.
+fn check_object(instr: &Instr, object: &Object) -> bool
+    requires { looks_into instr.now ≡ true }
+    ensures { (level : Level) (code : List Instr) (at : ℕ) → result ≡ instr_passes object.now level code at instr.now }
+{
+    match instr {
         Instr::New { to, class } => {
             is_place(to, object) && has(object, ImportKind::Class, class)
         }
@@ -177,15 +173,45 @@ fn check_instr(instr: &Instr, level: Level, code: &[Instr], at: u64, object: &Ob
             is_place(to, object) && has(object, ImportKind::Conformance, conformance)
         }
         Instr::Sub { to, table, .. } => two_places(to, table, object),
-        Instr::Print { items } => check_all(items, object),
-        Instr::Trap { .. } => true,
+        _ => unreachable!(),
     }
 }
 
-fn places_and_sizes(from: &Operand, offset: &Layout, size: &Layout, object: &Object) -> bool
-    ensures { result ≡ (is_place object.now from.now && (is_sized object.now offset.now && is_sized object.now size.now)) }
+fn check_instr(instr: &Instr, level: Level, code: &[Instr], at: u64, object: &Object) -> bool
+    ensures { result ≡ instr_passes object.now level code.now at instr.now }
 {
-    is_place(from, object) && is_sized(offset, object) && is_sized(size, object)
+    match instr {
+        Instr::Tick => is_timed(level),
+        Instr::Int { to, .. } => is_place(to, object),
+        Instr::Bool { to, .. } => is_place(to, object),
+        Instr::Text { to, .. } => is_place(to, object),
+        Instr::Move { to, from, size } => places_of_size(to, from, size, object),
+        Instr::Jump { target } => jumps_well(code, at, *target),
+        Instr::Unless { test, target } => is_place(test, object) && jumps_well(code, at, *target),
+        Instr::Math {
+            to,
+            left,
+            right,
+            ..
+        } => three_places(to, left, right, object),
+        Instr::Neg { to, from } => two_places(to, from, object),
+        Instr::Order {
+            to,
+            left,
+            right,
+            ..
+        } => three_places(to, left, right, object),
+        Instr::Equal { to, left, right } => three_places(to, left, right, object),
+        Instr::Same { to, left, right } => three_places(to, left, right, object),
+        Instr::Not { to, from } => two_places(to, from, object),
+        Instr::Join { to, left, right } => three_places(to, left, right, object),
+        Instr::Return { from, size } => is_place(from, object) && is_sized(size, object),
+        Instr::Print { items } => check_all(items, object),
+        Instr::Trap { .. } => true,
+        Instr::Call { .. } | Instr::Dispatch { .. } | Instr::Super { .. } | Instr::Witness { .. } =>
+            check_enter(instr, level, object),
+        _ => check_object(instr, object),
+    }
 }
 
 fn check_code(level: Level, code: &[Instr], object: &Object) -> bool

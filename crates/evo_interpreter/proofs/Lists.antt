@@ -1,10 +1,11 @@
 -- Lists with other elements from a place on, seen through a function of the elements.
 use Rattle.std.proofs.Common.{◌≡◌, ℕ, zero, suc, ◌+◌, ◌-◌, ◌≤◌, true, List, [], ◌∷◌, ◌++◌, length, map, take, drop, refl, sym, ap, ◌∙◌, arith}
 use Rattle.std.specs.Prelude.{slice_set, replicate, nat_le}
-use Rattle.std.proofs.lemmas.List.{take-map, drop-map, map-append, length-map}
+use Rattle.std.proofs.lemmas.Bool.{leb-true}
+use Rattle.std.proofs.lemmas.List.{take-map, drop-map, map-append, length-map, length-take-le, length-drop}
 use Rattle.evo_execution.specs.declared.end.MachineFault.TheVariants as fault
-use Rattle.evo_execution.specs.Words.{Word, Got, provided, pack, unpack}
-use Rattle.evo_execution.specs.Execution.{words_at}
+use Rattle.evo_execution.specs.Words.{Word, Answer, Got, and_then, provided, pack, unpack}
+use Rattle.evo_execution.specs.Execution.{words_at, written_at}
 use Rattle.evo_interpreter.specs.Words.{put_at}
 
 pub map-put : {A B : Type 0} (f : A → B) (xs : List A) (at : ℕ) (new : List A) → map f (put_at xs at new) ≡ put_at (map f xs) at (map f new)
@@ -34,3 +35,18 @@ words_at-inside f ws xs at n same h =
 pub unpack-pack : (ws : List Word) → unpack (pack ws) ≡ ws
 unpack-pack [] = refl
 unpack-pack (w ∷ ws) = ap (λ (t : List Word). w ∷ t) (unpack-pack ws)
+
+length-part : {A : Type 0} (xs : List A) (at n : ℕ) → at + n ≤ length xs → length (take (at + n - at) (drop at xs)) ≡ n
+length-part xs at n h = length-take-le (at + n - at) (drop at xs) (omega (arith, length-drop at xs)) ∙ omega arith
+
+-- a part of a list, put into another, where both are seen through a function
+pub given : {A : Type 0} (f : A → Word) (ws os : List Word) (xs ys new : List A) (from n to : ℕ) → ws ≡ map f xs → os ≡ map f ys → nat_le (from + n) (length ws) ≡ true → nat_le (to + n) (length os) ≡ true
+    → new ≡ put_at ys to (take (from + n - from) (drop from xs)) → and_then (words_at ws from n) (written_at os to) ≡ Got (map f new)
+given f ws os xs ys new from n to same others inside fits is =
+    let part = take (from + n - from) (drop from xs) in
+    let within : from + n ≤ length xs = let l = length-map xs f in let e : length ws ≡ length xs = ap length same ∙ l in omega (arith, e, leb-true (from + n) (length ws) inside) in
+    let count : length (map f part) ≡ n = length-map part f ∙ length-part xs from n within in
+    ap (λ (a : Answer (List Word)). and_then a (written_at os to)) (words_at-inside f ws xs from n same inside)
+    ∙ (ap (λ k. provided (nat_le (to + k) (length os)) fault.Range (put_at os to (map f part))) count
+    ∙ (ap (λ b. provided b fault.Range (put_at os to (map f part))) fits
+    ∙ ap (λ (t : List Word). Got t) (ap (λ (l : List Word). put_at l to (map f part)) others ∙ (sym (map-put f ys to part) ∙ ap (map f) (sym is)))))

@@ -7,7 +7,7 @@ ghost use Rattle.evo_interpreter.specs.States.{state_of, Ran};
 
 use crate::halt::{Effect, Halt};
 use crate::operands::read;
-use crate::state::State;
+use crate::state::{Frame, State};
 use crate::words::Words;
 use evo_code::{Image, Layout, Operand, value};
 use evo_execution::{End, MachineFault, Stop};
@@ -51,6 +51,7 @@ fn give(state: &mut State, words: Words) -> Result<Effect, Halt>
     if !caller.words.write(state.top.to, words) {
         return Err(Halt::Stop(Stop::Fault(MachineFault::Range)));
     }
-    state.top = caller;
+    let Frame { words, .. } = std::mem::replace(&mut state.top, caller);
+    state.below.retire(words);
     Ok(Effect::Goes)
 }

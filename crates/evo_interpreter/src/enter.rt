@@ -1,12 +1,12 @@
 //! Entering functions.
 
-ghost use Rattle.std.specs.Prelude.{◌≡◌, ◌+◌, ◌<◌, ◌^◌, ◌∷◌, None, MatchResult};
+ghost use Rattle.std.specs.Prelude.{◌≡◌, ◌+◌, ◌<◌, ◌^◌, ◌∷◌, None, MatchResult, OnOk};
 ghost use Rattle.evo_code.specs.declared.instr.Instr.TheVariants as Op;
 ghost use Rattle.evo_execution.specs.Execution.{argument_words, arguments_words, words_from, passed, enter, enter_function, act, frame_of, next, object_at, receiver, Goes};
 ghost use Rattle.evo_execution.specs.Tables.{function_number, target_named, code_at, entry_of, method_of, super_method_of, class_named};
 ghost use Rattle.evo_execution.specs.Words.{and_then, Got, Stops};
 ghost use Rattle.evo_interpreter.specs.Integers.{answer_of};
-ghost use Rattle.evo_interpreter.specs.States.{state_of, object_of, Answers, Ran, Adds};
+ghost use Rattle.evo_interpreter.specs.States.{state_of, object_of, entered, Answers, Ran, Adds};
 
 use crate::halt::{Effect, Halt};
 use crate::operands::{address, read, reference, room, table};
@@ -19,7 +19,7 @@ use evo_code::{
     Arg, Entry, Function, Image, Layout, Operand, Symbol, Target, item_named, number_named, value,
 };
 use evo_execution::{MachineFault, Stop};
-use std::alloc::Global;
+use std::alloc::{AllocError, Global};
 
 // The words of an argument, which are as many as its slot has.
 fn argument(
@@ -86,20 +86,18 @@ fn words_from(
     arguments(alloc, image, state, args, more, out)
 }
 
-// Puts a frame of this function on top, whose first words are these.
-fn push_frame(
-    image: &Image,
+/// Puts a frame of this function on top, whose first words are these, and which has so many.
+pub fn push_frame(
     state: &mut State,
     number: u64,
-    function: &Function,
     mut words: Words,
+    room: u64,
     to: u64,
-) -> Result<Effect, Halt>
+) -> Result<(), AllocError>
     requires { state.old.top.at + 1 < 2 ^ 64 }
-    ensures { Ran result state.new (Got (Goes (record (state_of state.old) { top = frame_of image.now number function.now words to; below = (next (state_of state.old)).top ∷ (state_of state.old).below }))) }
+    ensures { OnOk result (state_of state.new ≡ entered (state_of state.old) number words room to) }
 {
-    let rest = room(function.slots.as_slice(), &image.sizes).saturating_sub(words.len());
-    words.fill(rest)?;
+    words.fill(room.saturating_sub(words.len()))?;
     let frame = Frame {
         function: number,
         at: 0,
@@ -109,6 +107,23 @@ fn push_frame(
     let mut caller = std::mem::replace(&mut state.top, frame);
     caller.at += 1;
     state.below.push(caller)?;
+    Ok(())
+}
+
+// Puts a frame of this function on top, whose first words are these.
+fn push_function(
+    image: &Image,
+    state: &mut State,
+    number: u64,
+    function: &Function,
+    words: Words,
+    to: u64,
+) -> Result<Effect, Halt>
+    requires { state.old.top.at + 1 < 2 ^ 64 }
+    ensures { Ran result state.new (Got (Goes (record (state_of state.old) { top = frame_of image.now number function.now words to; below = (next (state_of state.old)).top ∷ (state_of state.old).below }))) }
+{
+    let room = room(function.slots.as_slice(), &image.sizes);
+    push_frame(state, number, words, room, to)?;
     Ok(Effect::Goes)
 }
 
@@ -140,7 +155,7 @@ fn enter_function(
     if passed(&first) + args.len() as u64 != function.params {
         return Err(Halt::Stop(Stop::Fault(MachineFault::Size)));
     }
-    let mut words = Words::new(alloc);
+    let mut words = state.fresh(alloc);
     words_from(
         alloc,
         image,
@@ -158,7 +173,7 @@ fn enter_function(
     if !state.top.words.has(at, count) {
         return Err(Halt::Stop(Stop::Fault(MachineFault::Range)));
     }
-    push_frame(image, state, number, function, words, at)
+    push_function(image, state, number, function, words, at)
 }
 
 // Enters the function of this number.

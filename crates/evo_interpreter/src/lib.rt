@@ -22,6 +22,7 @@ mod text;
 mod word;
 mod words;
 
+pub use enter::push_frame;
 pub use halt::Effect;
 pub use integers::{computed, ordered};
 pub use operands::{room, room_before};

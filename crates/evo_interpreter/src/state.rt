@@ -1,6 +1,7 @@
 //! What a run is in the midst of.
 
 ghost use Rattle.std.specs.Prelude.{◌≡◌, ◌∷◌, [], OnOk, MatchOption};
+ghost use Rattle.evo_interpreter.specs.Frames.{newest_takes};
 
 use crate::text::Text;
 use crate::words::Words;
@@ -17,10 +18,11 @@ pub struct Frame {
     pub to: u64,
 }
 
-/// Frames, the newest first.
+/// Frames, the newest first. The words of frames that were left are kept, so that new frames need no memory of their own.
 #[derive(Drop)]
 pub struct Frames {
     frames: Vec<Frame>,
+    spare: Vec<Words>,
 }
 
 impl Model for Frames {
@@ -43,6 +45,7 @@ impl Frames {
     {
         Frames {
             frames: Vec::new(alloc),
+            spare: Vec::new(alloc),
         }
     }
 
@@ -60,6 +63,41 @@ impl Frames {
     {
         self.frames.pop()
     }
+
+    /// Whether so many words lie inside of the newest frame from a place on.
+    pub fn takes(&self, at: u64, count: u64) -> bool
+        ensures { result ≡ newest_takes self.now at count }
+    {
+        match self.frames.last() {
+            Some(frame) => frame.words.has(at, count),
+            None => false,
+        }
+    }
+
+    /// No words, in the place of those of a frame that was left.
+    pub fn fresh(&mut self, alloc: Global) -> Words
+        ensures none { result ≡ [] }
+        ensures kept { self.new ≡ self.old }
+    {
+        match self.spare.pop() {
+            Some(mut words) => {
+                words.clear();
+                words
+            }
+            None => Words::new(alloc),
+        }
+    }
+
+    /// Keeps the place of words that no frame has any more.
+    pub fn retire(&mut self, mut words: Words)
+        ensures { self.new ≡ self.old }
+    {
+        words.clear();
+        match self.spare.push(words) {
+            Ok(()) => {}
+            Err(_) => {}
+        }
+    }
 }
 
 /// An object: its class, and the words of its properties.
@@ -76,4 +114,14 @@ pub struct State {
     pub below: Frames,
     pub objects: Vec<Object>,
     pub ticks: u64,
+}
+
+impl State {
+    /// No words, in the place of those of a frame that was left.
+    pub fn fresh(&mut self, alloc: Global) -> Words
+        ensures none { result ≡ [] }
+        ensures kept { self.new ≡ self.old }
+    {
+        self.below.fresh(alloc)
+    }
 }

@@ -1,8 +1,9 @@
 //! One step of a run.
 
-ghost use Rattle.std.specs.Prelude.{◌≡◌, ◌+◌, ◌<◌, ◌^◌, IfOk};
+ghost use Rattle.std.specs.Prelude.{◌≡◌, ◌+◌, ◌<◌, ◌^◌, true, IfOk};
 ghost use Rattle.evo_execution.specs.Execution.{act, act_at, instr_of, step};
 ghost use Rattle.evo_interpreter.specs.States.{state_of, Does, Ran};
+ghost use Rattle.evo_code.specs.Groups.{enters, looks_into};
 
 use crate::calls::do_return;
 use crate::enter::{do_call, do_dispatch, do_super, do_witness};
@@ -20,6 +21,71 @@ use crate::word::Word;
 use evo_code::{Image, Instr};
 use evo_execution::{End, MachineFault, Stop};
 use std::alloc::{AllocError, Global};
+
+// Does an instruction that enters a function.
+fn do_enter(alloc: Global, image: &Image, state: &mut State, instr: &Instr) -> Result<Effect, Halt>
+    requires room { state.old.top.at + 1 < 2 ^ 64 }
+    requires enters { enters instr.now ≡ true }
+    ensures { Ran result state.new (act image.now (state_of state.old) instr.now) }
+{
+    match instr {
+        Instr::Call {
+            function,
+            args,
+            to,
+            size,
+        } => do_call(alloc, image, state, function, args, to, size),
+        Instr::Dispatch {
+            method,
+            args,
+            to,
+            size,
+        } => do_dispatch(alloc, image, state, method, args, to, size),
+        Instr::Super {
+            class,
+            method,
+            args,
+            to,
+            size,
+        } => do_super(alloc, image, state, class, method, args, to, size),
+        Instr::Witness {
+            table,
+            requirement,
+            args,
+            to,
+            size,
+        } => do_witness(alloc, image, state, table, requirement, args, to, size),
+        _ => unreachable!(),
+    }
+}
+
+// Does an instruction that takes from an object, a box or a table.
+fn do_object(alloc: Global, image: &Image, state: &mut State, instr: &Instr) -> Result<Effect, Halt>
+    requires room { state.old.top.at + 1 < 2 ^ 64 }
+    requires looks { looks_into instr.now ≡ true }
+    ensures { Ran result state.new (act image.now (state_of state.old) instr.now) }
+{
+    match instr {
+        Instr::New { to, class } => do_new(alloc, image, state, to, class),
+        Instr::Load {
+            to,
+            object,
+            offset,
+            size,
+        } => do_load(alloc, image, state, to, object, offset, size),
+        Instr::Store {
+            object,
+            offset,
+            from,
+            size,
+        } => do_store(alloc, image, state, object, offset, from, size),
+        Instr::Box { to, from, size } => do_box(alloc, image, state, to, from, size),
+        Instr::Unbox { to, from, size } => do_unbox(alloc, image, state, to, from, size),
+        Instr::Table { to, conformance } => do_table(alloc, image, state, to, conformance),
+        Instr::Sub { to, table, name } => do_sub(alloc, image, state, to, table, name),
+        _ => unreachable!(),
+    }
+}
 
 // Does an instruction.
 fn do_instr(alloc: Global, image: &Image, state: &mut State, instr: &Instr) -> Result<Effect, Halt>
@@ -51,52 +117,12 @@ fn do_instr(alloc: Global, image: &Image, state: &mut State, instr: &Instr) -> R
         Instr::Same { to, left, right } => do_same(image, state, to, left, right),
         Instr::Not { to, from } => do_not(image, state, to, from),
         Instr::Join { to, left, right } => do_join(alloc, image, state, to, left, right),
-        Instr::Call {
-            function,
-            args,
-            to,
-            size,
-        } => do_call(alloc, image, state, function, args, to, size),
-        Instr::Dispatch {
-            method,
-            args,
-            to,
-            size,
-        } => do_dispatch(alloc, image, state, method, args, to, size),
-        Instr::Super {
-            class,
-            method,
-            args,
-            to,
-            size,
-        } => do_super(alloc, image, state, class, method, args, to, size),
-        Instr::Witness {
-            table,
-            requirement,
-            args,
-            to,
-            size,
-        } => do_witness(alloc, image, state, table, requirement, args, to, size),
         Instr::Return { from, size } => do_return(alloc, image, state, from, size),
-        Instr::New { to, class } => do_new(alloc, image, state, to, class),
-        Instr::Load {
-            to,
-            object,
-            offset,
-            size,
-        } => do_load(alloc, image, state, to, object, offset, size),
-        Instr::Store {
-            object,
-            offset,
-            from,
-            size,
-        } => do_store(alloc, image, state, object, offset, from, size),
-        Instr::Box { to, from, size } => do_box(alloc, image, state, to, from, size),
-        Instr::Unbox { to, from, size } => do_unbox(alloc, image, state, to, from, size),
-        Instr::Table { to, conformance } => do_table(alloc, image, state, to, conformance),
-        Instr::Sub { to, table, name } => do_sub(alloc, image, state, to, table, name),
         Instr::Print { items } => do_print(alloc, image, state, items),
         Instr::Trap { number } => do_trap(image, state, *number),
+        Instr::Call { .. } | Instr::Dispatch { .. } | Instr::Super { .. } | Instr::Witness { .. } =>
+            do_enter(alloc, image, state, instr),
+        _ => do_object(alloc, image, state, instr),
     }
 }
 

@@ -1,13 +1,13 @@
 //! The words of a frame or an object.
 
-ghost use Rattle.std.specs.Prelude.{◌≡◌, ◌+◌, ◌≤◌, ◌∷◌, ◌++◌, [], length, map, take, drop, replicate, nat_le, slice_get, IfOk, OnOk, OnErr, IsTrue, IsFalse, MatchOption, None, Some};
+ghost use Rattle.std.specs.Prelude.{◌≡◌, ◌+◌, ◌≤◌, ◌∷◌, ◌++◌, [], length, map, replicate, nat_le, slice_get, IfOk, OnOk, OnErr, IsTrue, IsFalse, MatchOption, None, Some, true};
 ghost use Rattle.evo_execution.specs.Words.{Empty};
-ghost use Rattle.evo_execution.specs.Words.{Got, Faults};
-ghost use Rattle.evo_execution.specs.Execution.{written, words_at};
+ghost use Rattle.evo_execution.specs.Words.{and_then, Got, Faults};
+ghost use Rattle.evo_execution.specs.Execution.{written, written_at, words_at};
 ghost use Rattle.evo_execution.specs.declared.end.MachineFault.TheVariants as fault;
 ghost use Rattle.evo_interpreter.specs.Words.{word_of, put_at};
 
-use crate::word::{Word, copy_words};
+use crate::word::{Word, copy_word};
 use std::alloc::{AllocError, Global};
 use std::marker::Model;
 
@@ -66,12 +66,21 @@ impl Words {
         Ok(())
     }
 
+    /// Takes all words away.
+    pub fn clear(&mut self)
+        ensures { self.new ≡ [] }
+    {
+        self.words.clear();
+    }
+
     /// Puts copies of words at the end.
     pub fn append(&mut self, alloc: Global, more: &[Word]) -> Result<(), AllocError>
         ensures { OnOk result (self.new ≡ self.old ++ map word_of more.now) }
     {
-        let mut copies = copy_words(alloc, more)?;
-        self.words.append(&mut copies)?;
+        self.words.reserve(more.len())?;
+        for word in more {
+            self.words.push(copy_word(alloc, word)?)?;
+        }
         Ok(())
     }
 
@@ -93,6 +102,7 @@ impl Words {
     }
 
     /// The word at a place.
+    #[inline(always)]
     pub fn get(&self, at: u64) -> Option<&Word>
         ensures { MatchOption result (slice_get self.now at ≡ None) (λ w. slice_get self.now at ≡ Some (word_of w.now)) }
     {
@@ -118,7 +128,18 @@ impl Words {
         write_words(&mut self.words, at, new)
     }
 
+    /// Gives so many words from a place on to others, and takes theirs.
+    pub fn give(&mut self, from: u64, count: u64, others: &mut Words, to: u64)
+        requires inside { nat_le (from + count) (length self.old) ≡ true }
+        requires fits { nat_le (to + count) (length others.old) ≡ true }
+        ensures { and_then (words_at self.old from count) (written_at others.old to) ≡ Got others.new }
+    {
+        let given = &mut self.words[from as usize..(from + count) as usize];
+        swap_words(&mut others.words, to, given);
+    }
+
     /// Sets the word at a place, where it lies inside. The answer says whether it does.
+    #[inline(always)]
     pub fn set(&mut self, at: u64, word: Word) -> bool
         ensures fits { result ≡ nat_le (at + 1) (length self.old) }
         ensures written { IsTrue result → self.new ≡ written self.old at (word_of word ∷ []) }
@@ -126,6 +147,15 @@ impl Words {
     {
         set_word(&mut self.words, at, word)
     }
+}
+
+// Puts elements in the place of those from a place on, and takes these.
+fn swap_words(words: &mut Vec<Word>, at: u64, new: &mut [Word])
+    requires { at + length new.old ≤ length words.old.items }
+    ensures { words.new.items ≡ put_at words.old.items at new.old }
+{
+    let end = at + new.len() as u64;
+    words[at as usize..end as usize].swap_with_slice(new);
 }
 
 // Sets elements from a place on, where all lie inside.
@@ -138,11 +168,12 @@ fn write_words(words: &mut Vec<Word>, at: u64, mut new: Vec<Word>) -> bool
     if at > len || count > len - at {
         return false;
     }
-    words[at as usize..(at + count) as usize].swap_with_slice(&mut new);
+    swap_words(words, at, &mut new);
     true
 }
 
 // Sets the element at a place, where it lies inside.
+#[inline(always)]
 fn set_word(words: &mut Vec<Word>, at: u64, word: Word) -> bool
     ensures fits { result ≡ nat_le (at + 1) (length words.old.items) }
     ensures written { IsTrue result → words.new.items ≡ put_at words.old.items at (word ∷ []) }

@@ -1,4 +1,5 @@
 pub mod Follow
+pub mod Moved
 pub mod QuickSteps
 pub mod Says
 pub mod Sinks

@@ -1,3 +1,4 @@
+pub mod Passing
 pub mod Quick
 pub mod Reached
 pub mod Runs

@@ -7,6 +7,7 @@
 //! `evo_interpreter`, and sinks in `evo_base`.
 #![tactic(auto)]
 
+mod calls;
 mod load;
 mod machine;
 mod plan;

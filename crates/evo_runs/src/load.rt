@@ -13,8 +13,8 @@ use evo_code::{
     is_low, is_timed, jumps_well, may_call, number_named,
 };
 
-// The number of the function with this symbol.
-fn function_number(image: &Image, symbol: &Symbol) -> Option<u64>
+/// The number of the function with this symbol.
+pub fn function_number(image: &Image, symbol: &Symbol) -> Option<u64>
     ensures { result ≡ function_number image.now symbol.now }
 {
     number_named(image.functions.as_slice(), symbol.as_slice())
