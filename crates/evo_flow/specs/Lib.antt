@@ -1,0 +1,15 @@
+pub mod Way
+pub mod Act
+pub mod Path
+pub mod Flows
+pub mod Laws
+pub mod Trees
+pub mod TreeFlows
+pub mod Scenes
+pub mod Switches
+pub mod Text
+pub mod Faults
+pub mod Verdict
+pub mod Subjects
+pub mod Made
+pub mod Types
