@@ -1,0 +1,10 @@
+pub mod Gaps
+pub mod Unresolved
+pub mod Owned
+pub mod Sites
+pub mod Added
+pub mod Subjects
+pub mod Headers
+pub mod Inherited
+pub mod Placed
+pub mod DeclaredParts
